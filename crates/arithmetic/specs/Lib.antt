@@ -1,0 +1,4 @@
+pub mod Fields
+pub mod Modular
+pub mod Elements
+pub mod Runs
