@@ -8,29 +8,29 @@ use crate::field::Arithmetic;
 
 // Whether two elements have one code. Such elements stand for each other in every operation.
 pub fn same<T: Arithmetic>(a: T, b: T) -> bool
-    ensures answer { λ r. ⌜ Tells r (T·Arithmetic .value a ≡ T·Arithmetic .value b) ⌝ }
-    ensures settled { λ _. ⌜ Settled-by-codes (T·Arithmetic .field .ops) ⌝ }
+    ensures answer { λ r. ⌜ Tells r (value a ≡ value b) ⌝ }
+    ensures settled { λ _. ⌜ Settled-by-codes (field .ops) ⌝ }
 {
     a.code() == b.code()
 }
 
 // Whether an element is zero. Not every element is.
 pub fn is_zero<T: Arithmetic>(a: T) -> bool
-    ensures answer { λ r. ⌜ Tells r (T·Arithmetic .value a ≡ T·Arithmetic .field .ops .zero) ⌝ }
-    ensures not_all { λ _. ⌜ (All-zero (T·Arithmetic .field .ops) → ⊥) ⌝ }
+    ensures answer { λ r. ⌜ Tells r (value a ≡ field .ops .zero) ⌝ }
+    ensures not_all { λ _. ⌜ (All-zero (field .ops) → ⊥) ⌝ }
 {
     a.code() == 0
 }
 
 pub fn difference<T: Arithmetic>(a: T, b: T) -> T
-    ensures { λ r. ⌜ T·Arithmetic .value r ≡ T·Arithmetic .field .ops .sum (T·Arithmetic .value a) (T·Arithmetic .field .ops .negative (T·Arithmetic .value b)) ⌝ }
+    ensures { λ r. ⌜ value r ≡ field .ops .sum (value a) (field .ops .negative (value b)) ⌝ }
 {
     a.sum(b.negative())
 }
 
 // The sum of the products of two runs, over the places that both have.
 pub fn sum_of_products<T: Arithmetic>(a: &[T], b: &[T]) -> T
-    ensures { λ r. ⌜ T·Arithmetic .value r ≡ dot (T·Arithmetic .field .ops) (min (length (now (a .entry))) (length (now (b .entry)))) (row (T·Arithmetic .field .ops) (T·Arithmetic .value) (now (a .entry))) (row (T·Arithmetic .field .ops) (T·Arithmetic .value) (now (b .entry))) ⌝ }
+    ensures { λ r. ⌜ value r ≡ dot (field .ops) (min (length (now (a .entry))) (length (now (b .entry)))) (row (field .ops) (value) (now (a .entry))) (row (field .ops) (value) (now (b .entry))) ⌝ }
 {
     let both = a.len().min(b.len());
     let mut sum = T::zero();

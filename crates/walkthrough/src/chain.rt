@@ -8,7 +8,7 @@ use arithmetic::same;
 
 // What the lengths add up to: the element of their sum, however large that is.
 pub fn chained<T: Arithmetic>(lengths: &[i32]) -> T
-    ensures { λ r. ⌜ T·Arithmetic .value r ≡ T·Arithmetic .field .ops .bring (folded _+ℤ_ (pos 0) (now (lengths .entry))) ⌝ }
+    ensures { λ r. ⌜ value r ≡ field .ops .bring (folded _+ℤ_ (pos 0) (now (lengths .entry))) ⌝ }
 {
     let mut sum = T::zero();
     for length in lengths {
@@ -19,7 +19,7 @@ pub fn chained<T: Arithmetic>(lengths: &[i32]) -> T
 
 // Whether the lengths add up to the closing dimension, as far as the arithmetic can tell.
 pub fn closes<T: Arithmetic>(lengths: &[i32], closing: T) -> bool
-    ensures { λ r. ⌜ Tells r (T·Arithmetic .field .ops .bring (folded _+ℤ_ (pos 0) (now (lengths .entry))) ≡ T·Arithmetic .value closing) ⌝ }
+    ensures { λ r. ⌜ Tells r (field .ops .bring (folded _+ℤ_ (pos 0) (now (lengths .entry))) ≡ value closing) ⌝ }
 {
     same(chained::<T>(lengths), closing)
 }

@@ -1,13 +1,7 @@
-use mathlib.Core.Path.{_≡_, refl, ap, _∙_}
-use mathlib.Core.List.{List, [], _∷_}
+use mathlib.Core.Path.{_≡_, ap, _∙_}
 use Prim.Native.Nat.{ℕ}
-use Rattle.arithmetic.specs.Modular.{inverse-of}
-use Rattle.examples.specs.Worked.{Worked}
-use Rattle.examples.proofs.residue_codes.Needs as need
-
-worked : Worked
-unfolding inverse-of
-worked = record { inverse-of-two = refl; minus-one = refl; order = refl }
+use Rattle.examples.proofs.Worked.{worked}
+use Rattle.examples.proofs.residues.residue_codes.Needs as need
 
 pub returns : need.returns
 returns c =
