@@ -1,0 +1,12 @@
+pub mod Parts
+pub mod Lists
+pub mod Endings
+pub mod Holdings
+pub mod Judging
+pub mod Enquiries
+pub mod Ahead
+pub mod Verdicts
+pub mod Courses
+pub mod Agreements
+pub mod Histories
+pub mod Laws

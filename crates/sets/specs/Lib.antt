@@ -1,0 +1,4 @@
+pub mod States
+pub mod Subject
+pub mod Histories
+pub mod Laws
