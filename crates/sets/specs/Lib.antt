@@ -2,3 +2,9 @@ pub mod States
 pub mod Subject
 pub mod Histories
 pub mod Laws
+pub mod Memory
+pub mod Readings
+pub mod Workings
+pub mod Refused
+pub mod Sets
+pub mod Asked

@@ -1,6 +1,7 @@
 // One task from beginning to end: a valve body, dimensioned along one axis.
 mod chain;
 mod elimination;
+mod scheme;
 
 use arithmetic::Arithmetic;
 use arithmetic::Parity;
@@ -18,6 +19,7 @@ use columns::Topmost;
 use columns::TopmostChooser;
 use elimination::Column;
 use elimination::eliminated;
+use scheme::judge_scheme;
 use std::io;
 
 const FACES: [&str; 5] = ["seat", "shoulder", "flange", "groove", "end face"];
@@ -42,7 +44,8 @@ fn main(rt: LibcRuntime) -> io::Result<()> {
         FACES[0], FACES[4], CLOSING
     )?;
     close_the_chain(&rt)?;
-    eliminate_by_hand(&rt)
+    eliminate_by_hand(&rt)?;
+    judge_scheme(&rt)
 }
 
 // The chain's sum against the closing dimension, right, off by one, and off by what cannot be told.
