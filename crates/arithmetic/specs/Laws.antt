@@ -1,5 +1,5 @@
 -- What follows from the laws, in any field.
-use Rattle.std.specs.Prelude.{◌≡◌, ℕ, zero, suc, ◌+◌, Bool, true, false, ℤ, pos, negsuc, ◌+ℤ◌, ◌==◌, refl}
+use Rattle.std.specs.Prelude.{◌≡◌, zero, suc, Bool, true, false, ℤ, pos, negsuc, ◌+ℤ◌, ◌==◌, refl}
 use Rattle.std.proofs.Common.{sym, ap, ◌∙◌, eqb-true}
 use Rattle.std.proofs.Math.IntN.{suc_ℤ, pred_ℤ, suc-pred, +ℤ_one, +ℤ-suc_ℤ, +ℤ-pred_ℤ, +ℤ_idr}
 use Rattle.std.proofs.lemmas.Bool.{eqb-false}

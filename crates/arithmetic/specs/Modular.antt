@@ -1,5 +1,5 @@
 -- The numbers below p, with sums and products modulo p.
-use Rattle.std.specs.Prelude.{ℕ, zero, suc, ◌+◌, ◌-◌, ◌*◌, ◌/◌, ◌%◌, ◌<◌, cond, ℤ, pos, nat_le, unsigned_abs}
+use Rattle.std.specs.Prelude.{ℕ, zero, suc, ◌+◌, ◌-◌, ◌*◌, ◌/◌, ◌%◌, ◌<◌, cond, pos, nat_le, unsigned_abs}
 use Rattle.std.proofs.Common.{mod-lt}
 use Rattle.std.specs.Int.{int_rem_euclid}
 use Rattle.arithmetic.specs.Fields.{Field}

@@ -1,15 +1,15 @@
 -- The numbers below a prime form a field.
 use Rattle.std.specs.Prelude.{◌≡◌, ℕ, zero, suc, ◌+◌, ◌-◌, ◌*◌, ◌/◌, ◌%◌, ◌^◌, ◌<◌, ◌≤◌, Bool, true, false, cond, ℤ, pos, negsuc, ◌+ℤ◌, nat_le, unsigned_abs}
 use Rattle.std.proofs.Math.Path.{refl, sym, ap}
-use Rattle.std.proofs.Common.{subst, ◌∙◌, mod-eq_of_lt, mul_comm, mul_assoc, mul-add, mul-one, arith, leb-true, leb-false}
+use Rattle.std.proofs.Common.{◌∙◌, mod-eq_of_lt, mul_comm, mul_assoc, mul-add, mul-one, arith, leb-true, leb-false}
 use mathlib.Core.HLevel.{Σ_prop_path}
 use Rattle.std.proofs.Math.Nat.{mod-lt, mod-mod, mod-add-mod, add-mod-mod, mod_self, add-mod, suc-mod, zero-mod}
 use Rattle.std.proofs.Math.Bridge.{le_prop}
 use Rattle.std.proofs.Math.Decide.{dec_lt}
 use Rattle.std.proofs.Math.IntN.{+ℤ_one}
 use Rattle.std.specs.Int.{int_rem_euclid}
-use Rattle.arithmetic.specs.Fields.{Field, Lawful}
-use Rattle.arithmetic.specs.Modular.{Below, inverse_of, reduced, modular}
+use Rattle.arithmetic.specs.Fields.{Lawful}
+use Rattle.arithmetic.specs.Modular.{Below, inverse_of, modular}
 use Rattle.arithmetic.specs.Remainders.{mod_mul_mod, mul_mod_mod, descent}
 use Rattle.arithmetic.specs.Primes.{Prime}
 

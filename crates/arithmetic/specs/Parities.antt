@@ -1,7 +1,7 @@
 -- Parities: what the functions compute is what the field says.
 use Rattle.std.specs.Prelude.{◌≡◌, refl}
-use Rattle.std.proofs.Common.{sym, ap, ◌∙◌, lit<}
-use Rattle.arithmetic.specs.Fields.{Field, Lawful}
+use Rattle.std.proofs.Common.{lit<}
+use Rattle.arithmetic.specs.Fields.{Lawful}
 use Rattle.arithmetic.specs.Modular.{inverse_of}
 use Rattle.arithmetic.specs.Elements.{parities, parity}
 use Rattle.arithmetic.specs.declared.parity.Parity.{Parity}

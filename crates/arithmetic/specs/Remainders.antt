@@ -1,6 +1,6 @@
 -- Remainders of sums and products.
-use Rattle.std.specs.Prelude.{◌≡◌, ℕ, zero, suc, ◌+◌, ◌-◌, ◌*◌, ◌/◌, ◌%◌, ◌<◌, ◌≤◌, refl}
-use Rattle.std.proofs.Common.{sym, ap, ◌∙◌, mod-lt, mul_comm, mul_assoc, mul-add, add-mul, mul-one, div-le_self, arith}
+use Rattle.std.specs.Prelude.{◌≡◌, ℕ, ◌+◌, ◌-◌, ◌*◌, ◌/◌, ◌%◌, ◌<◌, ◌≤◌}
+use Rattle.std.proofs.Common.{sym, ap, ◌∙◌, mul_comm, mul_assoc, mul-add, add-mul, mul-one, div-le_self, arith}
 use Rattle.std.proofs.Math.Nat.{div-add-mod, mul-add-mod_self_left}
 
 pub mod_mul_mod : (a b m : ℕ) → (a % m * b) % m ≡ (a * b) % m

@@ -1,8 +1,8 @@
 -- Residues: what the functions compute is what the field says.
-use Rattle.std.specs.Prelude.{◌≡◌, ℕ, ◌+◌, ◌-◌, ◌*◌, ◌/◌, ◌%◌, ◌<◌, refl}
+use Rattle.std.specs.Prelude.{◌≡◌, ℕ, ◌+◌, ◌-◌, ◌*◌, ◌/◌, ◌%◌, ◌<◌}
 use Rattle.std.proofs.Common.{sym, ap, ◌∙◌, mod-lt, mod-eq_of_lt, mul_comm, mul_assoc, mul-zero, arith, lit<}
 use Rattle.std.proofs.Math.Nat.{mod-mod, add-mod}
-use Rattle.arithmetic.specs.Fields.{Field, Lawful}
+use Rattle.arithmetic.specs.Fields.{Lawful}
 use Rattle.arithmetic.specs.Elements.{residues, residue}
 use Rattle.arithmetic.specs.declared.residue.Residue.{Residue}
 use Rattle.arithmetic.specs.Laws.{inverse_unique}

@@ -1,5 +1,5 @@
 -- Runs of elements by place, and finite sums.
-use Rattle.std.specs.Prelude.{◌≡◌, ℕ, zero, suc, Bool, true, false, List, [], ◌∷◌}
+use Rattle.std.specs.Prelude.{ℕ, zero, suc, Bool, true, false, List, [], ◌∷◌}
 use Rattle.arithmetic.specs.Fields.{Field}
 
 -- the answer says whether the fact holds

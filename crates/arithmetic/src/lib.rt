@@ -1,4 +1,6 @@
 // Arithmetic of finite fields, seen through the codes of their elements.
+#![tactic(auto)]
+
 mod elements;
 mod field;
 mod parity;

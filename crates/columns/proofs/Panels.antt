@@ -1,6 +1,6 @@
 -- Columns of a panel, by place.
-use Rattle.std.proofs.Common.{◌≡◌, ℕ, zero, suc, ◌+◌, ◌-◌, ◌*◌, ◌/◌, ◌<◌, ◌≤◌, ◌⊎◌, List, [], ◌∷◌, length, get_or, take, drop, set, Some, None, Option, sym, refl, ap, ◌∙◌, subst, ap₂, subst₂, inl, inr, mul-le-mul_right, add-mul, arith, below_more}
-use native.Mathlib.Decide.{ℕ_discrete, dec_lt}
+use Rattle.std.proofs.Common.{◌≡◌, ℕ, zero, suc, ◌+◌, ◌-◌, ◌*◌, ◌/◌, ◌<◌, ◌≤◌, List, [], ◌∷◌, length, get_or, take, drop, set, Some, sym, refl, ap, ◌∙◌, subst, ap₂, subst₂, mul-le-mul_right, add-mul, arith, below_more}
+use native.Mathlib.Decide.{ℕ_discrete}
 use borrow.Rule.Slice.PartMut.{put_mid, same_len_mid}
 use Rattle.std.specs.List.{swap}
 use Rattle.std.proofs.lemmas.List.{get_or-take, get_or-drop, length-take, length-take-le, length-drop, length-set}
@@ -10,7 +10,7 @@ use Rattle.arithmetic.specs.Runs.{row}
 use Rattle.arithmetic.proofs.Rows.{row_inside}
 use Rattle.columns.specs.Swaps.{put, exchange, unswapped}
 use Rattle.columns.specs.Panels.{column_of, places, cells, EachColumn}
-use Rattle.columns.proofs.Places.{put_at, put_off, put_is, put_comm}
+use Rattle.columns.proofs.Places.{put_is, put_comm}
 use Rattle.columns.proofs.Swaps.{put_both}
 
 -- a place in column j of n columns

@@ -1,7 +1,6 @@
 -- Each chooser picks what it says, and keeps the law.
-use Rattle.std.specs.Prelude.{◌≡◌, ℕ, zero, suc, ◌+◌, ◌<◌, ◌≤◌, Bool, true, false, cond, ◌&&◌, ◌⊎◌, List, [], ◌∷◌, length, take, Some, None, Option, MatchOption, ◌==◌, nat_le, nat_lt, slice_index, refl}
-use Rattle.std.proofs.Common.{sym, ap, subst, ◌∙◌, inl, inr, ⊎_elim, arith, le_of_suc-le-suc, add-one, drop-cons, ext_get_or}
-use Rattle.std.proofs.lemmas.List.{drop_all, length-take-le, get_or-take}
+use Rattle.std.specs.Prelude.{◌≡◌, ℕ, zero, suc, ◌+◌, ◌<◌, ◌≤◌, Bool, true, false, cond, ◌&&◌, ◌⊎◌, List, [], ◌∷◌, length, Some, None, Option, MatchOption, ◌==◌, nat_le, nat_lt, slice_index, refl}
+use Rattle.std.proofs.Common.{sym, ap, subst, ◌∙◌, inl, inr, ⊎_elim, arith, le_of_suc-le-suc}
 use Rattle.std.proofs.lemmas.Bool.{eq-eqb, ne_eqb, le-leb, lt-leb, lt-ltb, le-ltb, and_from, and_left, and_right, cond-true, cond-false, cases_eq, cases_lt, both_ways}
 use Rattle.columns.specs.Picks.{Pick, AllZero, NonzeroAt, Fit, LawfulPick, guarded, first_from, greatest_from, topmost, greatest, marked, masked, or_else, keep_free, IsFirst, IsGreatest, Spares, InWords}
 

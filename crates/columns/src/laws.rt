@@ -6,8 +6,8 @@ use arithmetic::Arithmetic;
 
 // The theory of columns, over the elements of an arithmetic. What it returns is their zero.
 pub fn theory_holds<T: Arithmetic>() -> T
-    ensures theory { Theory field.ops }
-    ensures zero { value result ≡ field.ops.zero }
+    ensures theory { Theory T.field.ops }
+    ensures zero { T.value result ≡ T.field.ops.zero }
 {
     T::zero()
 }

@@ -1,4 +1,6 @@
 // Columns of elements: who picks a pivot, and the workings that both engines use.
+#![tactic(auto)]
+
 mod choosers;
 mod keep_free;
 mod laws;

@@ -35,7 +35,7 @@ pub fn solve_panel<T: Arithmetic>(
     panel: &mut [T],
 ) -> Result<(), Refusal>
     ensures refused { result_err result ≡ factor_refusal (length factors.now) height c (length panel.old) }
-    ensures solved { MatchResult result (λ _. EachColumn height (Solves field.ops value (cells field.ops value height factors.now) c) panel.old panel.new) (λ _. panel.new ≡ panel.old) }
+    ensures solved { MatchResult result (λ _. EachColumn height (Solves T.field.ops T.value (cells T.field.ops T.value height factors.now) c) panel.old panel.new) (λ _. panel.new ≡ panel.old) }
 {
     let columns = workable(factors.len(), height, c, panel.len())?;
     each_column(panel, height, columns, &Solving { factors, c });
@@ -50,7 +50,7 @@ pub fn subtract_product<T: Arithmetic>(
     panel: &mut [T],
 ) -> Result<(), Refusal>
     ensures refused { result_err result ≡ factor_refusal (length factors.now) height c (length panel.old) }
-    ensures reduced { MatchResult result (λ _. EachColumn height (Reduces field.ops value (cells field.ops value height factors.now) c) panel.old panel.new) (λ _. panel.new ≡ panel.old) }
+    ensures reduced { MatchResult result (λ _. EachColumn height (Reduces T.field.ops T.value (cells T.field.ops T.value height factors.now) c) panel.old panel.new) (λ _. panel.new ≡ panel.old) }
 {
     let columns = workable(factors.len(), height, c, panel.len())?;
     each_column(panel, height, columns, &Reducing { factors, c });
@@ -169,7 +169,7 @@ impl<T> ColumnWork<T> for Unswapping<'_> {
 // The sum of row i of the first n columns of L, each times the column's entry of that number.
 fn share<T: Arithmetic>(factors: &[T], column: &[T], i: usize, n: usize) -> T
     requires { (i < length column.now) × ((n ≤ length column.now) × (n * length column.now ≤ length factors.now)) }
-    ensures { value result ≡ total field.ops n (λ k. field.ops.product (cells field.ops value (length column.now) factors.now k i) (row field.ops value column.now k)) }
+    ensures { T.value result ≡ total T.field.ops n (λ k. T.field.ops.product (cells T.field.ops T.value (length column.now) factors.now k i) (row T.field.ops T.value column.now k)) }
 {
     let mut sum = T::zero();
     for k in 0..n {
@@ -188,7 +188,7 @@ struct Solving<'a, T> {
 impl<T: Arithmetic> ColumnWork<T> for Solving<'_, T> {
     ghost ready = { λ s height. (s.c ≤ height) × (s.c * height ≤ length s.factors.now) };
 
-    ghost becomes = { λ s before. Solves field.ops value (cells field.ops value (length before) s.factors.now) s.c before };
+    ghost becomes = { λ s before. Solves T.field.ops T.value (cells T.field.ops T.value (length before) s.factors.now) s.c before };
 
     fn work(&self, column: &mut [T]) {
         for i in 0..self.c {
@@ -206,7 +206,7 @@ struct Reducing<'a, T> {
 impl<T: Arithmetic> ColumnWork<T> for Reducing<'_, T> {
     ghost ready = { λ s height. (s.c ≤ height) × (s.c * height ≤ length s.factors.now) };
 
-    ghost becomes = { λ s before. Reduces field.ops value (cells field.ops value (length before) s.factors.now) s.c before };
+    ghost becomes = { λ s before. Reduces T.field.ops T.value (cells T.field.ops T.value (length before) s.factors.now) s.c before };
 
     fn work(&self, column: &mut [T]) {
         for i in self.c..column.len() {

@@ -1,4 +1,6 @@
 // Tests of choosers and workings, with values worked out elsewhere.
+#![tactic(auto)]
+
 #[cfg(test)]
 mod choices;
 #[cfg(test)]

@@ -1,4 +1,6 @@
 // The worked examples: proved of the definitions, and run.
+#![tactic(auto)]
+
 mod choices;
 mod residues;
 

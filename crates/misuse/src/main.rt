@@ -1,4 +1,6 @@
 // A set used as it may be. `.ci/misuse` turns this program, a line at a time, into uses that the compiler refuses.
+#![tactic(auto)]
+
 use arithmetic::{Arithmetic, Residue};
 use columns::Topmost;
 use sets::OpenSet;

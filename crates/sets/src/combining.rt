@@ -13,7 +13,7 @@ use arithmetic::{Arithmetic, difference, sum_of_products};
 // Row n divided by U's diagonal, and the rows before it less their share.
 fn back_row<T: Arithmetic>(memory: &[T], n: usize, answer: &mut [T])
     requires { (Room (length answer.old) memory.now) × (n < length answer.old) }
-    ensures { row field.ops value answer.new ≡ back_row_lem field.ops (cells field.ops value (length answer.old) memory.now) n (row field.ops value answer.old) }
+    ensures { row T.field.ops T.value answer.new ≡ back_row_lem T.field.ops (cells T.field.ops T.value (length answer.old) memory.now) n (row T.field.ops T.value answer.old) }
 {
     let m = answer.len();
     let x = cell(memory, m, n, n).inverse().product(answer[n]);
@@ -26,7 +26,7 @@ fn back_row<T: Arithmetic>(memory: &[T], n: usize, answer: &mut [T])
 // The combination of the r columns held that gives the worked column in the answer run.
 pub fn combine_back<T: Arithmetic>(memory: &[T], r: usize, answer: &mut [T])
     requires { (Room (length answer.old) memory.now) × (r ≤ length answer.old) }
-    ensures { (pivots : List ℕ) → row field.ops value answer.new ≡ combination field.ops (packed field.ops value (length answer.old) r memory.now pivots) (row field.ops value answer.old) }
+    ensures { (pivots : List ℕ) → row T.field.ops T.value answer.new ≡ combination T.field.ops (packed T.field.ops T.value (length answer.old) r memory.now pivots) (row T.field.ops T.value answer.old) }
 {
     clear(r, answer);
     for n in (0..r).rev() {
@@ -37,7 +37,7 @@ pub fn combine_back<T: Arithmetic>(memory: &[T], r: usize, answer: &mut [T])
 // The value of the combination in the answer run.
 pub fn value_of<T: Arithmetic>(memory: &[T], r: usize, answer: &[T]) -> T
     requires { (Room (length answer.now) memory.now) × (r ≤ length answer.now) }
-    ensures { (pivots : List ℕ) → value result ≡ value_of field.ops (stored field.ops value (length answer.now) r memory.now pivots) (row field.ops value answer.now) }
+    ensures { (pivots : List ℕ) → T.value result ≡ value_of T.field.ops (stored T.field.ops T.value (length answer.now) r memory.now pivots) (row T.field.ops T.value answer.now) }
 {
     let m = answer.len();
     let targets = column(memory, m, m + 1);

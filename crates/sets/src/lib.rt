@@ -1,4 +1,6 @@
 // Sets of columns: each column offered is taken, redundant or a clash.
+#![tactic(auto)]
+
 mod combining;
 mod memory;
 mod moving;

@@ -14,7 +14,7 @@ pub(crate) mod taking;
 // Row i of column j.
 pub(crate) fn entry<T: Arithmetic>(memory: &[T], height: usize, j: usize, i: usize) -> T
     requires { (Room height memory.now) × ((j < height + 2) × (i < height)) }
-    ensures { value result ≡ cells field.ops value height memory.now j i }
+    ensures { T.value result ≡ cells T.field.ops T.value height memory.now j i }
 {
     memory[j * height + i]
 }
@@ -22,7 +22,7 @@ pub(crate) fn entry<T: Arithmetic>(memory: &[T], height: usize, j: usize, i: usi
 // Writes row i of column j.
 pub(crate) fn write<T: Arithmetic>(memory: &mut [T], height: usize, j: usize, i: usize, x: T)
     requires { (Room height memory.old) × ((j < height + 2) × (i < height)) }
-    ensures { Becomes field.ops value height memory.old memory.new (λ M. put j (put i (value x) (M j)) M) }
+    ensures { Becomes T.field.ops T.value height memory.old memory.new (λ M. put j (put i (T.value x) (M j)) M) }
 {
     memory[j * height + i] = x;
 }
@@ -30,7 +30,7 @@ pub(crate) fn write<T: Arithmetic>(memory: &mut [T], height: usize, j: usize, i:
 // Exchanges rows a and b of column j.
 pub(crate) fn exchange<T: Arithmetic>(memory: &mut [T], height: usize, j: usize, a: usize, b: usize)
     requires { (Room height memory.old) × ((j < height + 2) × ((a < height) × (b < height))) }
-    ensures { Becomes field.ops value height memory.old memory.new (λ M. put j (λ i. M j (exchange-of a b i)) M) }
+    ensures { Becomes T.field.ops T.value height memory.old memory.new (λ M. put j (λ i. M j (exchange-of a b i)) M) }
 {
     memory.swap(j * height + a, j * height + b);
 }

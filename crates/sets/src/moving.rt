@@ -14,7 +14,7 @@ use arithmetic::{Arithmetic, difference, sum_of_products};
 // The rows after row k, times column k.
 fn share_below<T: Arithmetic>(memory: &[T], k: usize, answer: &[T]) -> T
     requires { (Room (length answer.now) memory.now) × (k < length answer.now) }
-    ensures { value result ≡ dot field.ops (length answer.now) (joined (k + 1) (λ i. field.ops.zero) (row field.ops value answer.now)) (cells field.ops value (length answer.now) memory.now k) }
+    ensures { T.value result ≡ dot T.field.ops (length answer.now) (joined (k + 1) (λ i. T.field.ops.zero) (row T.field.ops T.value answer.now)) (cells T.field.ops T.value (length answer.now) memory.now k) }
 {
     let m = answer.len();
     let factors = column(memory, m, k);
@@ -24,7 +24,7 @@ fn share_below<T: Arithmetic>(memory: &[T], k: usize, answer: &[T]) -> T
 // Sets the rows before r in turn, the last first, so that the run times each column of L is what its row held.
 fn settle_down<T: Arithmetic>(memory: &[T], r: usize, answer: &mut [T])
     requires { (Room (length answer.old) memory.now) × (r ≤ length answer.old) }
-    ensures { (pivots : List ℕ) → row field.ops value answer.new ≡ settled field.ops (lower field.ops (packed field.ops value (length answer.old) r memory.now pivots)) (length answer.old) (row field.ops value answer.old) r (joined r (λ i. field.ops.zero) (row field.ops value answer.old)) }
+    ensures { (pivots : List ℕ) → row T.field.ops T.value answer.new ≡ settled T.field.ops (lower T.field.ops (packed T.field.ops T.value (length answer.old) r memory.now pivots)) (length answer.old) (row T.field.ops T.value answer.old) r (joined r (λ i. T.field.ops.zero) (row T.field.ops T.value answer.old)) }
 {
     for k in (0..r).rev() {
         answer[k] = difference(answer[k], share_below(memory, k, answer));
@@ -40,7 +40,7 @@ pub fn motion_into<T: Arithmetic>(
     answer: &mut [T],
 )
     requires { (Readable (length answer.old) r memory.now pivots.now) × (r + q < length answer.old) }
-    ensures { row field.ops value answer.new ≡ motion field.ops (packed field.ops value (length answer.old) r memory.now pivots.now) (row field.ops value answer.old) q }
+    ensures { row T.field.ops T.value answer.new ≡ motion T.field.ops (packed T.field.ops T.value (length answer.old) r memory.now pivots.now) (row T.field.ops T.value answer.old) q }
 {
     let x = answer[r + q].inverse();
     clear(0, answer);
@@ -52,7 +52,7 @@ pub fn motion_into<T: Arithmetic>(
 // Row n of the front substitution, from the rows before it.
 fn front_row<T: Arithmetic>(memory: &[T], n: usize, answer: &[T]) -> T
     requires { (Room (length answer.now) memory.now) × (n < length answer.now) }
-    ensures { value result ≡ front_entry field.ops (cells field.ops value (length answer.now) memory.now) (cells field.ops value (length answer.now) memory.now (length answer.now + 1)) n (row field.ops value answer.now) }
+    ensures { T.value result ≡ front_entry T.field.ops (cells T.field.ops T.value (length answer.now) memory.now) (cells T.field.ops T.value (length answer.now) memory.now (length answer.now + 1)) n (row T.field.ops T.value answer.now) }
 {
     let m = answer.len();
     let factors = column(memory, m, n);
@@ -64,7 +64,7 @@ fn front_row<T: Arithmetic>(memory: &[T], n: usize, answer: &[T]) -> T
 // Front substitution: the run times each column of U is the column's target.
 fn front_into<T: Arithmetic>(memory: &[T], r: usize, answer: &mut [T])
     requires { (Room (length answer.old) memory.now) × (r ≤ length answer.old) }
-    ensures { (pivots : List ℕ) → row field.ops value answer.new ≡ front field.ops (upper field.ops (packed field.ops value (length answer.old) r memory.now pivots)) (stored field.ops value (length answer.old) r memory.now pivots).target r }
+    ensures { (pivots : List ℕ) → row T.field.ops T.value answer.new ≡ front T.field.ops (upper T.field.ops (packed T.field.ops T.value (length answer.old) r memory.now pivots)) (stored T.field.ops T.value (length answer.old) r memory.now pivots).target r }
 {
     clear(0, answer);
     for n in 0..r {
@@ -75,7 +75,7 @@ fn front_into<T: Arithmetic>(memory: &[T], r: usize, answer: &mut [T])
 // The assignment that gives each of the r columns held its target.
 pub fn assignment_into<T: Arithmetic>(memory: &[T], r: usize, pivots: &[usize], answer: &mut [T])
     requires { Readable (length answer.old) r memory.now pivots.now }
-    ensures { row field.ops value answer.new ≡ solution field.ops (stored field.ops value (length answer.old) r memory.now pivots.now) }
+    ensures { row T.field.ops T.value answer.new ≡ solution T.field.ops (stored T.field.ops T.value (length answer.old) r memory.now pivots.now) }
 {
     front_into(memory, r, answer);
     settle_down(memory, r, answer);

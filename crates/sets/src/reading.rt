@@ -23,14 +23,14 @@ pub fn column<T>(memory: &[T], m: usize, j: usize) -> &[T]
 // Row i of column j.
 pub fn cell<T: Arithmetic>(memory: &[T], m: usize, j: usize, i: usize) -> T
     requires { (Room m memory.now) × ((j < m + 2) × (i < m)) }
-    ensures { value result ≡ cells field.ops value m memory.now j i }
+    ensures { T.value result ≡ cells T.field.ops T.value m memory.now j i }
 {
     column(memory, m, j)[i]
 }
 
 // Puts zeros into the rows from `from` on.
 pub fn clear<T: Arithmetic>(from: usize, answer: &mut [T])
-    ensures { row field.ops value answer.new ≡ joined from (row field.ops value answer.old) (λ i. field.ops.zero) }
+    ensures { row T.field.ops T.value answer.new ≡ joined from (row T.field.ops T.value answer.old) (λ i. T.field.ops.zero) }
 {
     for i in from..answer.len() {
         answer[i] = T::zero();
@@ -40,7 +40,7 @@ pub fn clear<T: Arithmetic>(from: usize, answer: &mut [T])
 // Swaps a column by the first r pivots.
 pub fn permute<T: Arithmetic>(r: usize, pivots: &[usize], answer: &mut [T])
     requires { (r ≤ length pivots.now) × (PivotsWithin (length answer.old) r pivots.now) }
-    ensures { row field.ops value answer.new ≡ swapped (joined r (offsets pivots.now) (λ k. 0)) r (row field.ops value answer.old) }
+    ensures { row T.field.ops T.value answer.new ≡ swapped (joined r (offsets pivots.now) (λ k. 0)) r (row T.field.ops T.value answer.old) }
 {
     let m = answer.len();
     let _ = swap_panel(answer, m, &pivots[..r]);
@@ -49,7 +49,7 @@ pub fn permute<T: Arithmetic>(r: usize, pivots: &[usize], answer: &mut [T])
 // Undoes those swaps.
 pub fn restore<T: Arithmetic>(r: usize, pivots: &[usize], answer: &mut [T])
     requires { (r ≤ length pivots.now) × (PivotsWithin (length answer.old) r pivots.now) }
-    ensures { row field.ops value answer.new ≡ unswapped (joined r (offsets pivots.now) (λ k. 0)) r (row field.ops value answer.old) }
+    ensures { row T.field.ops T.value answer.new ≡ unswapped (joined r (offsets pivots.now) (λ k. 0)) r (row T.field.ops T.value answer.old) }
 {
     let m = answer.len();
     let _ = unswap_panel(answer, m, &pivots[..r]);
@@ -58,7 +58,7 @@ pub fn restore<T: Arithmetic>(r: usize, pivots: &[usize], answer: &mut [T])
 // The column in the answer run becomes worked by the r columns held.
 pub fn work_apart<T: Arithmetic>(memory: &[T], r: usize, pivots: &[usize], answer: &mut [T])
     requires { Readable (length answer.old) r memory.now pivots.now }
-    ensures { row field.ops value answer.new ≡ worked field.ops (packed field.ops value (length answer.old) r memory.now pivots.now) (row field.ops value answer.old) }
+    ensures { row T.field.ops T.value answer.new ≡ worked T.field.ops (packed T.field.ops T.value (length answer.old) r memory.now pivots.now) (row T.field.ops T.value answer.old) }
 {
     permute(r, pivots, answer);
     let m = answer.len();
@@ -70,7 +70,7 @@ pub fn work_apart<T: Arithmetic>(memory: &[T], r: usize, pivots: &[usize], answe
 // The first place, counted from row r, where the run is not zero.
 pub fn leading<T: Arithmetic>(r: usize, answer: &[T]) -> Option<usize>
     requires { r ≤ length answer.now }
-    ensures first { result ≡ lead field.ops (length answer.now - r) (λ i. row field.ops value answer.now (r + i)) }
+    ensures first { result ≡ lead T.field.ops (length answer.now - r) (λ i. row T.field.ops T.value answer.now (r + i)) }
     ensures inside { IfSome result (λ i. r + i < length answer.now) }
 {
     for i in 0..answer.len() - r {

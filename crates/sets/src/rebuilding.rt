@@ -12,7 +12,7 @@ use arithmetic::Arithmetic;
 // Row i of column k of L, on or below the diagonal.
 fn lower_cell<T: Arithmetic>(memory: &[T], m: usize, k: usize, i: usize) -> T
     requires { (Room m memory.now) × ((k ≤ i) × (i < m)) }
-    ensures { (r : ℕ) (pivots : List ℕ) → k < r → value result ≡ lower field.ops (packed field.ops value m r memory.now pivots) k i }
+    ensures { (r : ℕ) (pivots : List ℕ) → k < r → T.value result ≡ lower T.field.ops (packed T.field.ops T.value m r memory.now pivots) k i }
 {
     if k < i {
         cell(memory, m, k, i)
@@ -24,7 +24,7 @@ fn lower_cell<T: Arithmetic>(memory: &[T], m: usize, k: usize, i: usize) -> T
 // Row i of column j of L U.
 fn product_cell<T: Arithmetic>(memory: &[T], m: usize, j: usize, i: usize) -> T
     requires { (Room m memory.now) × ((j < m) × (i < m)) }
-    ensures { (r : ℕ) (pivots : List ℕ) → j < r → value result ≡ multiply field.ops r (lower field.ops (packed field.ops value m r memory.now pivots)) (upper field.ops (packed field.ops value m r memory.now pivots)) j i }
+    ensures { (r : ℕ) (pivots : List ℕ) → j < r → T.value result ≡ multiply T.field.ops r (lower T.field.ops (packed T.field.ops T.value m r memory.now pivots)) (upper T.field.ops (packed T.field.ops T.value m r memory.now pivots)) j i }
 {
     let mut sum = T::zero();
     for k in 0..i.min(j) + 1 {
@@ -42,7 +42,7 @@ pub fn rebuild_into<T: Arithmetic>(
     answer: &mut [T],
 )
     requires { (Readable (length answer.old) r memory.now pivots.now) × (j < r) }
-    ensures { row field.ops value answer.new ≡ rebuilt field.ops (packed field.ops value (length answer.old) r memory.now pivots.now) j }
+    ensures { row T.field.ops T.value answer.new ≡ rebuilt T.field.ops (packed T.field.ops T.value (length answer.old) r memory.now pivots.now) j }
 {
     for i in 0..answer.len() {
         answer[i] = product_cell(memory, answer.len(), j, i);

@@ -22,7 +22,7 @@ impl<T: Arithmetic> OpenSet<T> {
     // Turns the set into a sealed one; a refused one too, which keeps its refusal.
     pub fn seal(self) -> SealedSet<T>
         ensures same { result.set ≡ self }
-        ensures step { Step field.ops (state field.ops value self) seal (state field.ops value result.set) }
+        ensures step { Step T.field.ops (state T.field.ops T.value self) seal (state T.field.ops T.value result.set) }
     {
         SealedSet { set: self }
     }
@@ -31,14 +31,14 @@ impl<T: Arithmetic> OpenSet<T> {
 impl<T: Arithmetic> SealedSet<T> {
     pub fn enquire(&self, query: &[T], answer: &mut [T]) -> Result<Reply<T>, Refusal>
         ensures refused { result_err result ≡ offer_refusal self.now.set.refusal self.now.set.unknowns (length query.now) (length answer.old) }
-        ensures replied { MatchResult result (Enquired field.ops value (state field.ops value self.now.set) query.now answer.new) (λ _. answer.new ≡ answer.old) }
+        ensures replied { MatchResult result (Enquired T.field.ops T.value (state T.field.ops T.value self.now.set) query.now answer.new) (λ _. answer.new ≡ answer.old) }
     {
         self.set.enquire(query, answer)
     }
 
     pub fn rebuild(&self, place: usize, answer: &mut [T]) -> Result<T, Refusal>
         ensures refused { result_err result ≡ rebuild_refusal self.now.set.refusal self.now.set.unknowns (length answer.old) place self.now.set.held }
-        ensures rebuilt { MatchResult result (Rebuilt field.ops value (state field.ops value self.now.set) place answer.new) (λ _. answer.new ≡ answer.old) }
+        ensures rebuilt { MatchResult result (Rebuilt T.field.ops T.value (state T.field.ops T.value self.now.set) place answer.new) (λ _. answer.new ≡ answer.old) }
     {
         self.set.rebuild(place, answer)
     }
@@ -46,7 +46,7 @@ impl<T: Arithmetic> SealedSet<T> {
     // Writes the assignment that meets every held column.
     pub fn solution(&self, answer: &mut [T]) -> Result<(), Refusal>
         ensures refused { result_err result ≡ solution_refusal self.now.set.refusal self.now.set.unknowns (length answer.old) self.now.set.held }
-        ensures solved { MatchResult result (λ _. Solved field.ops value (state field.ops value self.now.set) answer.new) (λ _. answer.new ≡ answer.old) }
+        ensures solved { MatchResult result (λ _. Solved T.field.ops T.value (state T.field.ops T.value self.now.set) answer.new) (λ _. answer.new ≡ answer.old) }
     {
         self.set.solution(answer)
     }
@@ -54,7 +54,7 @@ impl<T: Arithmetic> SealedSet<T> {
     // The determinant of the held columns.
     pub fn determinant(&self) -> Result<T, Refusal>
         ensures refused { result_err result ≡ determinant_refusal self.now.set.refusal self.now.set.unknowns self.now.set.held }
-        ensures determined { IfOk result (Determined field.ops value (state field.ops value self.now.set)) }
+        ensures determined { IfOk result (Determined T.field.ops T.value (state T.field.ops T.value self.now.set)) }
     {
         self.set.determinant()
     }

@@ -6,8 +6,8 @@ use arithmetic::Arithmetic;
 
 // The laws of sets, over the elements of an arithmetic. What it returns is their zero.
 pub fn laws_hold<T: Arithmetic>() -> T
-    ensures laws { Laws field.ops }
-    ensures zero { value result ≡ field.ops.zero }
+    ensures laws { Laws T.field.ops }
+    ensures zero { T.value result ≡ T.field.ops.zero }
 {
     T::zero()
 }

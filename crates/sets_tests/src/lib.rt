@@ -1,4 +1,6 @@
 // Tests of sets, with values worked out elsewhere.
+#![tactic(auto)]
+
 #[cfg(test)]
 mod helpers;
 #[cfg(test)]

@@ -6,7 +6,7 @@ use arithmetic::{Arithmetic, same};
 
 // What the lengths add up to: the element of their sum, however large that is.
 pub fn chained<T: Arithmetic>(lengths: &[i32]) -> T
-    ensures { value result ≡ field.ops.bring (fold ◌+ℤ◌ (pos 0) lengths.now) }
+    ensures { T.value result ≡ T.field.ops.bring (fold ◌+ℤ◌ (pos 0) lengths.now) }
 {
     let mut sum = T::zero();
     for length in lengths {
@@ -17,7 +17,7 @@ pub fn chained<T: Arithmetic>(lengths: &[i32]) -> T
 
 // Whether the lengths add up to the closing dimension, as far as the arithmetic can tell.
 pub fn closes<T: Arithmetic>(lengths: &[i32], closing: T) -> bool
-    ensures { Tells result (field.ops.bring (fold ◌+ℤ◌ (pos 0) lengths.now) ≡ value closing) }
+    ensures { Tells result (T.field.ops.bring (fold ◌+ℤ◌ (pos 0) lengths.now) ≡ T.value closing) }
 {
     same(chained::<T>(lengths), closing)
 }

@@ -1,4 +1,6 @@
 // One task from beginning to end: a valve body, dimensioned along one axis.
+#![tactic(auto)]
+
 mod chain;
 mod elimination;
 mod scheme;

@@ -13,7 +13,7 @@ use columns::{Chooser, swap_panel};
 // The codes of column `rank` from row `rank` on.
 fn rest_codes<T: Arithmetic>(memory: &[T], height: usize, rank: usize) -> [u32; 96]
     requires { (Room height memory.now) × (rank ≤ height) }
-    ensures { (k : ℕ) → k < height - rank → slice_index result k ≡ field.ops.code (cells field.ops value height memory.now rank (rank + k)) }
+    ensures { (k : ℕ) → k < height - rank → slice_index result k ≡ T.field.ops.code (cells T.field.ops T.value height memory.now rank (rank + k)) }
 {
     let mut codes = [0u32; 96];
     for i in 0..height - rank {
@@ -51,7 +51,7 @@ pub(crate) fn choose_row<T: Arithmetic, C: Chooser>(
     chooser: &C,
 ) -> Option<usize>
     requires { (Room height memory.now) × ((rank ≤ height) × (Inside height rank pivots.now)) }
-    ensures { result ≡ picked field.ops (pick chooser.now) (stored field.ops value height rank memory.now pivots.now) (cells field.ops value height memory.now rank) }
+    ensures { result ≡ picked T.field.ops (C.pick chooser.now) (stored T.field.ops T.value height rank memory.now pivots.now) (cells T.field.ops T.value height memory.now rank) }
 {
     let codes = rest_codes(memory, height, rank);
     let rows = row_unknowns(height, rank, pivots);

@@ -12,7 +12,7 @@ use arithmetic::{Arithmetic, difference, sum_of_products};
 // Row i of column `rank`, and zero from row `rank` on.
 fn top<T: Arithmetic>(memory: &[T], height: usize, rank: usize, i: usize) -> T
     requires { (Room height memory.now) × ((rank ≤ height) × (i < height)) }
-    ensures { value result ≡ joined rank (cells field.ops value height memory.now rank) (λ k. field.ops.zero) i }
+    ensures { T.value result ≡ joined rank (cells T.field.ops T.value height memory.now rank) (λ k. T.field.ops.zero) i }
 {
     if i < rank {
         entry(memory, height, rank, i)
@@ -24,7 +24,7 @@ fn top<T: Arithmetic>(memory: &[T], height: usize, rank: usize, i: usize) -> T
 // Those rows, into the answer run.
 fn load<T: Arithmetic>(memory: &[T], height: usize, rank: usize, answer: &mut [T])
     requires { (Room height memory.now) × ((rank ≤ height) × (length answer.old ≡ height)) }
-    ensures { row field.ops value answer.new ≡ joined rank (cells field.ops value height memory.now rank) (λ k. field.ops.zero) }
+    ensures { row T.field.ops T.value answer.new ≡ joined rank (cells T.field.ops T.value height memory.now rank) (λ k. T.field.ops.zero) }
 {
     for i in 0..height {
         answer[i] = top(memory, height, rank, i);
@@ -34,7 +34,7 @@ fn load<T: Arithmetic>(memory: &[T], height: usize, rank: usize, answer: &mut [T
 // Solves row n of the answer run by U, and takes its share from the rows before it.
 fn back_row<T: Arithmetic>(memory: &[T], height: usize, n: usize, answer: &mut [T])
     requires { (Room height memory.now) × ((n < height) × (length answer.old ≡ height)) }
-    ensures { row field.ops value answer.new ≡ back_step field.ops (cells field.ops value height memory.now) n (row field.ops value answer.old) }
+    ensures { row T.field.ops T.value answer.new ≡ back_step T.field.ops (cells T.field.ops T.value height memory.now) n (row T.field.ops T.value answer.old) }
 {
     let solved = entry(memory, height, n, n).inverse().product(answer[n]);
     for i in 0..n {
@@ -47,7 +47,7 @@ fn back_row<T: Arithmetic>(memory: &[T], height: usize, n: usize, answer: &mut [
 // Solves the rows before row `rank` of the answer run, the last first.
 fn back<T: Arithmetic>(memory: &[T], height: usize, rank: usize, answer: &mut [T])
     requires { (Room height memory.now) × ((rank ≤ height) × (length answer.old ≡ height)) }
-    ensures { row field.ops value answer.new ≡ joined rank (back_from field.ops (cells field.ops value height memory.now) rank (row field.ops value answer.old)) (row field.ops value answer.old) }
+    ensures { row T.field.ops T.value answer.new ≡ joined rank (back_from T.field.ops (cells T.field.ops T.value height memory.now) rank (row T.field.ops T.value answer.old)) (row T.field.ops T.value answer.old) }
 {
     for n in (0..rank).rev() {
         back_row(memory, height, n, answer);
@@ -62,8 +62,8 @@ pub(crate) fn explain<T: Arithmetic>(
     answer: &mut [T],
 ) -> T
     requires { (Room height memory.now) × ((rank ≤ height) × (length answer.old ≡ height)) }
-    ensures answer { row field.ops value answer.new ≡ back_from field.ops (cells field.ops value height memory.now) rank (cells field.ops value height memory.now rank) }
-    ensures worth { value result ≡ dot field.ops rank (cells field.ops value height memory.now (height + 1)) (row field.ops value answer.new) }
+    ensures answer { row T.field.ops T.value answer.new ≡ back_from T.field.ops (cells T.field.ops T.value height memory.now) rank (cells T.field.ops T.value height memory.now rank) }
+    ensures worth { T.value result ≡ dot T.field.ops rank (cells T.field.ops T.value height memory.now (height + 1)) (row T.field.ops T.value answer.new) }
 {
     load(memory, height, rank, answer);
     back(memory, height, rank, answer);

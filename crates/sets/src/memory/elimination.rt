@@ -14,7 +14,7 @@ use columns::swap_panel;
 // The sum of row i of the first n columns, each times the entry of that number in column `rank`.
 fn share<T: Arithmetic>(memory: &[T], height: usize, rank: usize, i: usize, n: usize) -> T
     requires { (Room height memory.now) × ((rank ≤ height) × ((i < height) × (n ≤ rank))) }
-    ensures { value result ≡ total field.ops n (λ k. field.ops.product (cells field.ops value height memory.now k i) (cells field.ops value height memory.now rank k)) }
+    ensures { T.value result ≡ total T.field.ops n (λ k. T.field.ops.product (cells T.field.ops T.value height memory.now k i) (cells T.field.ops T.value height memory.now rank k)) }
 {
     let mut sum = T::zero();
     for k in 0..n {
@@ -27,7 +27,7 @@ fn share<T: Arithmetic>(memory: &[T], height: usize, rank: usize, i: usize, n: u
 // Eliminates the columns before column `rank` from it.
 fn eliminate<T: Arithmetic>(memory: &mut [T], height: usize, rank: usize)
     requires { (Room height memory.old) × (rank ≤ height) }
-    ensures { Becomes field.ops value height memory.old memory.new (λ M. put rank (eliminated_by field.ops M rank (M rank)) M) }
+    ensures { Becomes T.field.ops T.value height memory.old memory.new (λ M. put rank (eliminated_by T.field.ops M rank (M rank)) M) }
 {
     for i in 0..height {
         let sum = share(memory, height, rank, i, i.min(rank));
@@ -45,7 +45,7 @@ pub(crate) fn work<T: Arithmetic>(
     column: &[T],
 )
     requires { (Room height memory.old) × ((rank ≤ height) × ((Inside height rank pivots.now) × (length column.now ≡ height))) }
-    ensures { Becomes field.ops value height memory.old memory.new (put rank (worked field.ops (packed field.ops value height rank memory.old pivots.now) (row field.ops value column.now))) }
+    ensures { Becomes T.field.ops T.value height memory.old memory.new (put rank (worked T.field.ops (packed T.field.ops T.value height rank memory.old pivots.now) (row T.field.ops T.value column.now))) }
 {
     let start = rank * height;
     let slot = &mut memory[start..start + height];

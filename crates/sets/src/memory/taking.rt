@@ -15,7 +15,7 @@ pub(crate) fn exchange_rows<T: Arithmetic>(
     b: usize,
 )
     requires { (Room height memory.old) × ((n < height + 2) × ((a < height) × (b < height))) }
-    ensures { Becomes field.ops value height memory.old memory.new (λ M. joined n (λ j i. M j (exchange-of a b i)) M) }
+    ensures { Becomes T.field.ops T.value height memory.old memory.new (λ M. joined n (λ j i. M j (exchange-of a b i)) M) }
 {
     for j in 0..n {
         exchange(memory, height, j, a, b);
@@ -25,7 +25,7 @@ pub(crate) fn exchange_rows<T: Arithmetic>(
 // Divides the rows after row `rank` of column `rank` by the entry in that row.
 pub(crate) fn divide<T: Arithmetic>(memory: &mut [T], height: usize, rank: usize)
     requires { (Room height memory.old) × (rank < height) }
-    ensures { Becomes field.ops value height memory.old memory.new (λ M. put rank (divided_below field.ops rank (M rank)) M) }
+    ensures { Becomes T.field.ops T.value height memory.old memory.new (λ M. put rank (divided_below T.field.ops rank (M rank)) M) }
 {
     let inverse = entry(memory, height, rank, rank).inverse();
     for i in rank + 1..height {

@@ -31,7 +31,7 @@ impl<T: Arithmetic> OpenSet<T> {
     // Whether the query is a combination of the held columns. Fixed: the combination, then zeros, in the answer run. Free: a motion.
     pub fn enquire(&self, query: &[T], answer: &mut [T]) -> Result<Reply<T>, Refusal>
         ensures refused { result_err result ≡ offer_refusal self.now.refusal self.now.unknowns (length query.now) (length answer.old) }
-        ensures replied { MatchResult result (Enquired field.ops value (state field.ops value self.now) query.now answer.new) (λ _. answer.new ≡ answer.old) }
+        ensures replied { MatchResult result (Enquired T.field.ops T.value (state T.field.ops T.value self.now) query.now answer.new) (λ _. answer.new ≡ answer.old) }
     {
         self.accept(query.len(), answer.len())?;
         answer.copy_from_slice(query);
@@ -52,7 +52,7 @@ impl<T: Arithmetic> OpenSet<T> {
     // Writes the column held at a place, and returns its target.
     pub fn rebuild(&self, place: usize, answer: &mut [T]) -> Result<T, Refusal>
         ensures refused { result_err result ≡ rebuild_refusal self.now.refusal self.now.unknowns (length answer.old) place self.now.held }
-        ensures rebuilt { MatchResult result (Rebuilt field.ops value (state field.ops value self.now) place answer.new) (λ _. answer.new ≡ answer.old) }
+        ensures rebuilt { MatchResult result (Rebuilt T.field.ops T.value (state T.field.ops T.value self.now) place answer.new) (λ _. answer.new ≡ answer.old) }
     {
         self.accept(answer.len(), answer.len())?;
         if place >= self.held {

@@ -27,8 +27,8 @@ impl<T: Arithmetic> OpenSet<T> {
     pub fn make(unknowns: usize, memory: Vec<T>) -> OpenSet<T>
         ensures memory { result.memory ≡ memory }
         ensures refusal { result.refusal ≡ make_refusal unknowns (vec_len memory) }
-        ensures state { state field.ops value result ≡ made field.ops (allowed (make_refusal unknowns (vec_len memory)) unknowns) }
-        ensures started { History field.ops result.unknowns [] (state field.ops value result) }
+        ensures state { state T.field.ops T.value result ≡ made T.field.ops (allowed (make_refusal unknowns (vec_len memory)) unknowns) }
+        ensures started { History T.field.ops result.unknowns [] (state T.field.ops T.value result) }
     {
         let refusal = unfit(unknowns, memory.len());
         if refusal.is_some() {
@@ -83,7 +83,7 @@ impl<T: Arithmetic> OpenSet<T> {
 
     // The pivot of the column held at place k.
     pub fn pivot(&self, k: usize) -> Option<usize>
-        ensures { MatchOption result (self.now.held ≤ k) (λ p. (k < self.now.held) × (p ≡ (state field.ops value self.now).factors.offset k)) }
+        ensures { MatchOption result (self.now.held ≤ k) (λ p. (k < self.now.held) × (p ≡ (state T.field.ops T.value self.now).factors.offset k)) }
     {
         if k < self.held {
             Some(self.pivots[k])
@@ -94,7 +94,7 @@ impl<T: Arithmetic> OpenSet<T> {
 
     // The target of the column held at place k.
     pub fn target(&self, k: usize) -> Option<T>
-        ensures { MatchOption result (self.now.held ≤ k) (λ t. (k < self.now.held) × (value t ≡ (state field.ops value self.now).target k)) }
+        ensures { MatchOption result (self.now.held ≤ k) (λ t. (k < self.now.held) × (T.value t ≡ (state T.field.ops T.value self.now).target k)) }
     {
         if k < self.held {
             Some(self.memory[(self.unknowns + 1) * self.unknowns + k])

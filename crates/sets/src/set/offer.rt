@@ -21,9 +21,9 @@ impl<T: Arithmetic> OpenSet<T> {
     fn judge<C: Chooser>(&mut self, column: &[T], chooser: &C) -> Option<usize>
         requires { length column.now ≡ self.old.unknowns }
         ensures kept { Kept self.old self.new }
-        ensures state { state field.ops value self.new ≡ state field.ops value self.old }
-        ensures worked { next_column field.ops value self.new ≡ worked_column field.ops value self.old column.now }
-        ensures pick { result ≡ picked field.ops (pick chooser.now) (state field.ops value self.old) (worked_column field.ops value self.old column.now) }
+        ensures state { state T.field.ops T.value self.new ≡ state T.field.ops T.value self.old }
+        ensures worked { next_column T.field.ops T.value self.new ≡ worked_column T.field.ops T.value self.old column.now }
+        ensures pick { result ≡ picked T.field.ops (C.pick chooser.now) (state T.field.ops T.value self.old) (worked_column T.field.ops T.value self.old column.now) }
     {
         let height = self.unknowns;
         let size = height * (height + 2);
@@ -42,7 +42,7 @@ impl<T: Arithmetic> OpenSet<T> {
     fn take(&mut self, q: usize, target: T) -> usize
         requires { self.old.held + q < self.old.unknowns }
         ensures place { result ≡ self.old.held }
-        ensures state { state field.ops value self.new ≡ taken_at field.ops (state field.ops value self.old) (next_column field.ops value self.old) (value target) q }
+        ensures state { state T.field.ops T.value self.new ≡ taken_at T.field.ops (state T.field.ops T.value self.old) (next_column T.field.ops T.value self.old) (T.value target) q }
         ensures surplus { surplus self.new ≡ surplus self.old }
         ensures refusal { self.new.refusal ≡ self.old.refusal }
     {
@@ -61,7 +61,7 @@ impl<T: Arithmetic> OpenSet<T> {
     // Writes the combination that gives the worked column after the held ones, and compares its value with the target.
     fn account(&self, target: T, answer: &mut [T]) -> Verdict<T>
         requires { length answer.old ≡ self.now.unknowns }
-        ensures { seen field.ops value result answer.new ≡ repeated field.ops (state field.ops value self.now) (combination field.ops (state field.ops value self.now).factors (next_column field.ops value self.now)) (value target) }
+        ensures { seen T.field.ops T.value result answer.new ≡ repeated T.field.ops (state T.field.ops T.value self.now) (combination T.field.ops (state T.field.ops T.value self.now).factors (next_column T.field.ops T.value self.now)) (T.value target) }
     {
         let height = self.unknowns;
         let slots = &self.memory[0..height * (height + 2)];
@@ -82,7 +82,7 @@ impl<T: Arithmetic> OpenSet<T> {
         chooser: &C,
     ) -> Result<Verdict<T>, Refusal>
         ensures refused { result_err result ≡ offer_refusal self.old.refusal self.old.unknowns (length column.now) (length answer.old) }
-        ensures judged { MatchResult result (Offered field.ops value (pick chooser.now) self.old column.now target answer.old self.new answer.new) (λ _. (self.new ≡ self.old) × (answer.new ≡ answer.old)) }
+        ensures judged { MatchResult result (Offered T.field.ops T.value (C.pick chooser.now) self.old column.now target answer.old self.new answer.new) (λ _. (self.new ≡ self.old) × (answer.new ≡ answer.old)) }
     {
         if let Some(refusal) = self.refusal {
             return Err(refusal);

@@ -16,7 +16,7 @@ use columns::Refusal;
 
 // The product so far, its sign turned unless the pivot leaves its row where it is.
 fn turned<T: Arithmetic>(product: T, offset: usize) -> T
-    ensures { value result ≡ (if nat_eq offset 0 then value product else field.ops.negative (value product)) }
+    ensures { T.value result ≡ (if nat_eq offset 0 then T.value product else T.field.ops.negative (T.value product)) }
 {
     if offset == 0 {
         product
@@ -28,7 +28,7 @@ fn turned<T: Arithmetic>(product: T, offset: usize) -> T
 // The product of U's diagonal, its sign turned by each pivot that really swaps.
 fn signed_product<T: Arithmetic>(memory: &[T], m: usize, r: usize, pivots: &[usize]) -> T
     requires { Readable m r memory.now pivots.now }
-    ensures { value result ≡ factored_determinant field.ops (packed field.ops value m r memory.now pivots.now) }
+    ensures { T.value result ≡ factored_determinant T.field.ops (packed T.field.ops T.value m r memory.now pivots.now) }
 {
     let mut product = T::one();
     for k in 0..r {
@@ -53,7 +53,7 @@ impl<T: Arithmetic> OpenSet<T> {
 
     pub(crate) fn solution(&self, answer: &mut [T]) -> Result<(), Refusal>
         ensures refused { result_err result ≡ solution_refusal self.now.refusal self.now.unknowns (length answer.old) self.now.held }
-        ensures solved { MatchResult result (λ _. Solved field.ops value (state field.ops value self.now) answer.new) (λ _. answer.new ≡ answer.old) }
+        ensures solved { MatchResult result (λ _. Solved T.field.ops T.value (state T.field.ops T.value self.now) answer.new) (λ _. answer.new ≡ answer.old) }
     {
         self.accept(answer.len(), answer.len())?;
         self.accept_full()?;
@@ -63,7 +63,7 @@ impl<T: Arithmetic> OpenSet<T> {
 
     pub(crate) fn determinant(&self) -> Result<T, Refusal>
         ensures refused { result_err result ≡ determinant_refusal self.now.refusal self.now.unknowns self.now.held }
-        ensures determined { IfOk result (Determined field.ops value (state field.ops value self.now)) }
+        ensures determined { IfOk result (Determined T.field.ops T.value (state T.field.ops T.value self.now)) }
     {
         self.accept_full()?;
         Ok(signed_product(

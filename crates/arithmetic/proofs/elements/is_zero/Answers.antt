@@ -1,5 +1,3 @@
-use Rattle.std.proofs.Common.{◌≡◌, ℕ, eqb, sym, subst}
-use Rattle.arithmetic.specs.Runs.{Tells}
 use Rattle.arithmetic.specs.Laws.{codes_tell, not_all_zero}
 use Rattle.arithmetic.proofs.elements.is_zero.Goals as goal
 

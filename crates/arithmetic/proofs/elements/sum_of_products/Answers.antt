@@ -1,4 +1,4 @@
-use Rattle.std.proofs.Common.{◌≡◌, ◌<◌, min, length, sym, ap, ◌∙◌, ap₂, add-one, arith}
+use Rattle.std.proofs.Common.{◌≡◌, min, length, sym, ap, ◌∙◌, ap₂, add-one, arith}
 use Rattle.arithmetic.specs.Runs.{row, dot}
 use Rattle.arithmetic.proofs.Rows.{row_inside}
 use Rattle.arithmetic.proofs.elements.sum_of_products.Goals as goal

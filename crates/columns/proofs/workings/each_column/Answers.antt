@@ -1,4 +1,4 @@
-use Rattle.std.proofs.Common.{◌≡◌, ℕ, ◌+◌, ◌-◌, ◌*◌, ◌<◌, ◌≤◌, length, take, drop, sym, refl, ap, ◌∙◌, subst, arith, rules}
+use Rattle.std.proofs.Common.{◌+◌, ◌*◌, ◌≤◌, length, sym, refl, subst, arith, rules}
 use Rattle.columns.proofs.Panels.{room, part_long, upto_none, upto_more, upto_all}
 use Rattle.columns.proofs.workings.each_column.Given as given
 use Rattle.columns.proofs.workings.each_column.Goals as goal

@@ -1,4 +1,4 @@
-use Rattle.std.proofs.Common.{◌≡◌, length, sym, ◌∙◌, subst, arith}
+use Rattle.std.proofs.Common.{subst, arith}
 use Rattle.columns.specs.Panels.{Solves, cells, column_of}
 use Rattle.columns.proofs.Panels.{column_length}
 use Rattle.columns.proofs.workings.solve_panel.Goals as goal

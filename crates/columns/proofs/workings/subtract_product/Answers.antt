@@ -1,4 +1,4 @@
-use Rattle.std.proofs.Common.{◌≡◌, length, sym, ◌∙◌, subst, arith}
+use Rattle.std.proofs.Common.{subst, arith}
 use Rattle.columns.specs.Panels.{Reduces, cells, column_of}
 use Rattle.columns.proofs.Panels.{column_length}
 use Rattle.columns.proofs.workings.subtract_product.Goals as goal

@@ -1,5 +1,4 @@
-use Rattle.std.proofs.Common.{◌≡◌, cond, Some, None, sym, ap₂, arith}
-use Rattle.columns.specs.declared.refusal.Refusal.{Refusal}
+use Rattle.std.proofs.Common.{cond, Some, None, sym, ap₂, arith}
 use Rattle.columns.specs.declared.refusal.Refusal.TheVariants.{Length, Place}
 use Rattle.columns.proofs.Pivots.{inside_holds, whole_counted}
 use Rattle.columns.proofs.workings.swappable.Goals as goal

@@ -4,8 +4,8 @@ use Rattle.sets.proofs.memory.exchange.Goals as goal
 
 pub swap-requires : goal.swap-requires
 swap-requires g c = record {
-  a-in-bounds = slot_place c.args.height c.args.j c.args.a (length c.args.memory.now) (omega arith) (omega arith) (omega arith);
-  b-in-bounds = slot_place c.args.height c.args.j c.args.b (length c.args.memory.now) (omega arith) (omega arith) (omega arith);
+  a_in_bounds = slot_place c.args.height c.args.j c.args.a (length c.args.memory.now) (omega arith) (omega arith) (omega arith);
+  b_in_bounds = slot_place c.args.height c.args.j c.args.b (length c.args.memory.now) (omega arith) (omega arith) (omega arith);
 }
 
 pub returns : goal.returns

@@ -1,4 +1,4 @@
-use Rattle.std.proofs.Common.{◌≡◌, ◌+◌, length, get_or, drop, sym, refl, ◌∙◌, ap₂, arith}
+use Rattle.std.proofs.Common.{◌+◌, drop, ◌∙◌, ap₂, arith}
 use Rattle.columns.specs.Picks.{IsGreatest, greatest_from}
 use Rattle.columns.specs.PicksLemmas.{said, greatest_in_words}
 use Rattle.columns.proofs.Searches.{greater_taken, greater_passed, greater_end}

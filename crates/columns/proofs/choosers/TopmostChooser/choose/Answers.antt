@@ -1,5 +1,5 @@
-use Rattle.std.proofs.Common.{◌≡◌, length, Some, None, ◌∙◌, arith}
-use Rattle.columns.specs.Picks.{IsFirst, topmost}
+use Rattle.std.proofs.Common.{◌∙◌, arith}
+use Rattle.columns.specs.Picks.{IsFirst}
 use Rattle.columns.specs.PicksLemmas.{said, topmost_in_words}
 use Rattle.columns.proofs.Searches.{first_next, first_found, first_none}
 use Rattle.columns.proofs.choosers.TopmostChooser.choose.Goals as goal

@@ -1,4 +1,4 @@
-use Rattle.std.proofs.Common.{true, set, sym, refl, arith}
+use Rattle.std.proofs.Common.{true, sym, refl, arith}
 use Rattle.std.proofs.lemmas.List.{set_past}
 use Rattle.columns.proofs.keep_free.KeepFree.mark.Goals as goal
 

@@ -1,5 +1,5 @@
-use Rattle.std.proofs.Common.{◌≡◌, ◌<◌, ◌≢◌, length, sym, ◌∙◌, arith, length-set, get_or-set_other, get_or-set_same, below_more}
-use Rattle.columns.specs.Picks.{Spares, masked}
+use Rattle.std.proofs.Common.{◌<◌, ◌≢◌, length, sym, ◌∙◌, arith, length-set, get_or-set_other, get_or-set_same, below_more}
+use Rattle.columns.specs.Picks.{Spares}
 use Rattle.columns.specs.PicksLemmas.{said, masked_at, keep_free_in_words}
 use Rattle.columns.proofs.Searches.{shown_whole, kept_some, kept_none}
 use Rattle.columns.proofs.keep_free.KeepFreeChooser.choose.Goals as goal

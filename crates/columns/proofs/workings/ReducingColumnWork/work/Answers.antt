@@ -1,6 +1,6 @@
-use Rattle.std.proofs.Common.{◌≡◌, ◌*◌, ◌≤◌, length, sym, ap, ◌∙◌, subst, arith}
+use Rattle.std.proofs.Common.{◌≡◌, ◌*◌, length, ap, ◌∙◌, subst, arith}
 use Rattle.arithmetic.specs.Runs.{row, total}
-use Rattle.columns.specs.Panels.{Reduces, cells}
+use Rattle.columns.specs.Panels.{cells}
 use Rattle.columns.proofs.Panels.{cells_past}
 use Rattle.columns.proofs.Steps.{Reducing, reducing_none, reducing_next, reducing_all}
 use Rattle.columns.proofs.workings.ReducingColumnWork.work.Goals as goal

@@ -1,4 +1,4 @@
-use Rattle.std.proofs.Common.{◌≡◌, ◌*◌, ◌≤◌, length, sym, ap, ◌∙◌, subst, mul-le-mul_right, arith}
+use Rattle.std.proofs.Common.{◌≡◌, ◌*◌, ◌≤◌, length, ap, ◌∙◌, subst, mul-le-mul_right, arith}
 use Rattle.arithmetic.specs.Runs.{row, total}
 use Rattle.columns.specs.Panels.{Solves, cells}
 use Rattle.columns.proofs.Steps.{solves_none, solves_next}

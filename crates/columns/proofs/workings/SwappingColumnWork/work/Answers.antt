@@ -1,11 +1,11 @@
-use Rattle.std.proofs.Common.{◌≡◌, ◌+◌, length, get_or, sym, ap, ◌∙◌, add-one, arith}
+use Rattle.std.proofs.Common.{◌≡◌, ◌+◌, length, sym, ap, ◌∙◌, add-one, arith}
 use Rattle.columns.specs.Swaps.{swapped, exchange}
 use Rattle.columns.specs.Panels.{places, offsets}
 use Rattle.columns.proofs.Panels.{places_exchanged}
 use Rattle.columns.proofs.workings.SwappingColumnWork.work.Goals as goal
 
 pub swap-requires : goal.swap-requires
-swap-requires g c = record { a-in-bounds = omega (arith, c.requires c.loop-k.k c.loop-k-test.true); b-in-bounds = omega (arith, c.requires c.loop-k.k c.loop-k-test.true) }
+swap-requires g c = record { a_in_bounds = omega (arith, c.requires c.loop-k.k c.loop-k-test.true); b_in_bounds = omega (arith, c.requires c.loop-k.k c.loop-k-test.true) }
 
 pub loop-k-preserved : goal.loop-k-preserved
 loop-k-preserved g c =

@@ -7,7 +7,7 @@ use Rattle.columns.proofs.workings.UnswappingColumnWork.work.Goals as goal
 pub swap-requires : goal.swap-requires
 swap-requires g c =
     let inside = c.requires (c.loop-k.k - 1) (omega arith) in
-    record { a-in-bounds = omega (arith, inside); b-in-bounds = omega (arith, inside) }
+    record { a_in_bounds = omega (arith, inside); b_in_bounds = omega (arith, inside) }
 
 pub loop-k-preserved : goal.loop-k-preserved
 loop-k-preserved g c =

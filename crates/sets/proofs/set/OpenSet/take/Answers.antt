@@ -8,7 +8,12 @@ use Rattle.sets.proofs.set.OpenSet.take.Goals as goal
 pub invariant_of-self : goal.invariant_of-self
 invariant_of-self g c =
     let s = c.args.self.now in
-    (s.size, (omega arith, (s.room, (pivot_more s.unknowns s.held c.args.q s.pivots (search rules) c.requires s.inside, tt))))
+    record {
+      size = s.size;
+      few = omega arith;
+      room = s.room;
+      inside = pivot_more s.unknowns s.held c.args.q s.pivots (search rules) c.requires s.inside;
+    }
 
 pub returns : goal.returns
 returns g c =
