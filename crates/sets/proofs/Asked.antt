@@ -1,5 +1,5 @@
 -- What answers by the formulas promise: each is a step, so the laws of histories speak of it.
-use Rattle.std.proofs.Common.{◌≡◌, ℕ, ◌<◌, List, [], ◌∷◌, sym, refl}
+use Rattle.std.proofs.Common.{◌≡◌, ℕ, List, [], ◌∷◌, sym, refl}
 use Rattle.arithmetic.specs.Fields.{Field, Lawful}
 use Rattle.arithmetic.specs.Runs.{row}
 use Rattle.columns.specs.Determinants.{factored_determinant}

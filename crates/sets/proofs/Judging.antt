@@ -1,5 +1,5 @@
 -- An offer, by any lawful pick, is a judgement of the subject on the columns held.
-use Rattle.std.proofs.Common.{◌≡◌, ℕ, zero, ◌+◌, ◌-◌, ◌<◌, ◌≤◌, List, length, get_or, Some, None, Option, sym, refl, ap, ◌∙◌, subst, arith, MatchOption}
+use Rattle.std.proofs.Common.{◌≡◌, ℕ, ◌+◌, ◌-◌, ◌<◌, ◌≤◌, List, length, get_or, Some, None, Option, sym, refl, ap, ◌∙◌, subst, arith, MatchOption}
 use native.Mathlib.Decide.{ℕ_discrete}
 use Rattle.arithmetic.specs.Fields.{Field, Lawful}
 use Rattle.columns.specs.Swaps.{choose}

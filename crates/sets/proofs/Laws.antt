@@ -1,5 +1,5 @@
 -- The laws of sets, put together.
-use Rattle.std.proofs.Common.{◌≡◌, ℕ, zero, List, get_or, sym, ap, ◌∙◌, subst, subst₂}
+use Rattle.std.proofs.Common.{◌≡◌, ℕ, List, get_or, sym, ap, ◌∙◌, subst, subst₂}
 use Rattle.arithmetic.specs.Fields.{Field, Lawful}
 use Rattle.columns.specs.Linear.{Independent}
 use Rattle.columns.specs.Determinants.{determinant}

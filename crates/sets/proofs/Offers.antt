@@ -1,5 +1,5 @@
 -- An offer, from what its steps tell.
-use Rattle.std.proofs.Common.{◌≡◌, ℕ, zero, suc, ◌+◌, ◌-◌, ◌<◌, ◌≤◌, List, length, Some, None, vec_items, Option, sym, refl, ap, ◌∙◌, ap₂, arith}
+use Rattle.std.proofs.Common.{◌≡◌, ℕ, ◌+◌, ◌-◌, ◌<◌, ◌≤◌, List, length, Some, None, vec_items, Option, sym, ap, ◌∙◌, ap₂, arith}
 use native.Mathlib.Decide.{ℕ_discrete}
 use Rattle.std.proofs.lemmas.Bool.Decides.{nat_tests}
 use Rattle.std.proofs.lemmas.Option.{MatchOption-at_some}
@@ -10,7 +10,7 @@ use Rattle.columns.specs.Picks.{Pick, LawfulPick, AllZero, NonzeroAt}
 use Rattle.columns.specs.Factors.{worked, combination}
 use Rattle.columns.specs.declared.refusal.Refusal.{Refusal}
 use Rattle.columns.proofs.Panels.{row_past}
-use Rattle.sets.specs.States.{State, Verdict as Judged, listed, codes, unknowns_in_rows, picked, value_of, repeated, taken_at, decided, offered}
+use Rattle.sets.specs.States.{State, Verdict as Judged, codes, unknowns_in_rows, picked, value_of, repeated, taken_at, decided, offered}
 use Rattle.sets.specs.States.Verdict.{taken, redundant, clash}
 use Rattle.sets.specs.Histories.Step.{offering}
 use Rattle.sets.specs.Refused.{offer_refusal}

@@ -1,4 +1,4 @@
-use Rattle.std.proofs.Common.{length, take, refl, ◌∙◌}
+use Rattle.std.proofs.Common.{length, take, refl}
 use Rattle.columns.specs.Panels.{Swaps}
 use Rattle.sets.proofs.Runs.{one_column, swaps_values, swaps_empty}
 use Rattle.sets.proofs.Accepted.{accepted, first_inside, swap_accepted}

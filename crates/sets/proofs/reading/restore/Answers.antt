@@ -1,4 +1,4 @@
-use Rattle.std.proofs.Common.{length, take, refl, ◌∙◌}
+use Rattle.std.proofs.Common.{length, take, refl}
 use Rattle.columns.specs.Panels.{Unswaps}
 use Rattle.sets.proofs.Runs.{one_column, unswaps_values, unswaps_empty}
 use Rattle.sets.proofs.Accepted.{accepted, first_inside, swap_accepted}

@@ -1,4 +1,4 @@
-use Rattle.std.proofs.Common.{◌≡◌, vec_items, ap, ◌∙◌, arith}
+use Rattle.std.proofs.Common.{◌≡◌, ap, ◌∙◌, arith}
 use Rattle.columns.specs.Determinants.{factored_determinant}
 use Rattle.sets.specs.Memory.{packed, stored}
 use Rattle.sets.specs.Sets.{state}

@@ -1,4 +1,4 @@
-use Rattle.std.proofs.Common.{◌≡◌, length, vec_items, sym, ap, ◌∙◌}
+use Rattle.std.proofs.Common.{◌≡◌, length, vec_items, ap, ◌∙◌}
 use Rattle.arithmetic.specs.Runs.{row}
 use Rattle.sets.specs.States.{value_of, enquired}
 use Rattle.sets.specs.States.Reply.{fixed, free}

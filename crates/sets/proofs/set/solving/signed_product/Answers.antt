@@ -1,4 +1,4 @@
-use Rattle.std.proofs.Common.{◌≡◌, ◌+◌, cond, eqb, sym, ap, ◌∙◌, ap₂, arith}
+use Rattle.std.proofs.Common.{◌≡◌, cond, eqb, sym, ap, ◌∙◌, ap₂, arith}
 use Rattle.columns.specs.Swaps.{joined}
 use Rattle.columns.specs.Panels.{cells, offsets}
 use Rattle.columns.specs.Determinants.{factored_determinant}
