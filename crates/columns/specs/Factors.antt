@@ -65,7 +65,7 @@ module _ {K : Type 0} (F : Field K) where
     pub inside : (k : ℕ) → k < s.rank → k + s.offset k < s.height
     pub diagonal : (j : ℕ) → j < s.rank → ¬ (s.entry j j ≡ 𝟘)
 
-  -- What row i of b holds after k columns of L have been eliminated. The law left-is-less-the-sum: it is
+  -- What row i of b holds after k columns of L have been eliminated. The law left_is_less_the_sum: it is
   -- entry i less the sum, for j below k, of L(i,j) times entry j, each entry j as it stands when its turn comes.
   unfoldable pub left : (ℕ → ℕ → K) → (ℕ → K) → ℕ → ℕ → K
   left L b zero i = b i

@@ -1,6 +1,6 @@
 // A set's memory, one slot of `height` elements after another: single elements of it.
 ghost use Rattle.std.specs.Prelude.{◌≡◌, ◌+◌, ◌<◌};
-ghost use Rattle.columns.specs.Swaps.{put, exchange as exchange-of};
+ghost use Rattle.columns.specs.Swaps.{put, exchange as exchange_of};
 ghost use Rattle.columns.specs.Panels.{cells};
 ghost use Rattle.sets.specs.Workings.{Room, Becomes};
 
@@ -30,7 +30,7 @@ pub(crate) fn write<T: Arithmetic>(memory: &mut [T], height: usize, j: usize, i:
 // Exchanges rows a and b of column j.
 pub(crate) fn exchange<T: Arithmetic>(memory: &mut [T], height: usize, j: usize, a: usize, b: usize)
     requires { (Room height memory.old) × ((j < height + 2) × ((a < height) × (b < height))) }
-    ensures { Becomes T.field.ops T.value height memory.old memory.new (λ M. put j (λ i. M j (exchange-of a b i)) M) }
+    ensures { Becomes T.field.ops T.value height memory.old memory.new (λ M. put j (λ i. M j (exchange_of a b i)) M) }
 {
     memory.swap(j * height + a, j * height + b);
 }

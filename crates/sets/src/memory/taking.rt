@@ -1,6 +1,6 @@
 // What a column's taking changes in memory.
 ghost use Rattle.std.specs.Prelude.{◌+◌, ◌<◌};
-ghost use Rattle.columns.specs.Swaps.{put, joined, exchange as exchange-of};
+ghost use Rattle.columns.specs.Swaps.{put, joined, exchange as exchange_of};
 ghost use Rattle.sets.specs.Workings.{Room, Becomes, divided_below};
 
 use crate::memory::{entry, exchange, write};
@@ -15,7 +15,7 @@ pub(crate) fn exchange_rows<T: Arithmetic>(
     b: usize,
 )
     requires { (Room height memory.old) × ((n < height + 2) × ((a < height) × (b < height))) }
-    ensures { Becomes T.field.ops T.value height memory.old memory.new (λ M. joined n (λ j i. M j (exchange-of a b i)) M) }
+    ensures { Becomes T.field.ops T.value height memory.old memory.new (λ M. joined n (λ j i. M j (exchange_of a b i)) M) }
 {
     for j in 0..n {
         exchange(memory, height, j, a, b);
