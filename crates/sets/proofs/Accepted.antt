@@ -6,7 +6,7 @@ use Rattle.std.proofs.lemmas.List.{get_or-take, length-take-le}
 use Rattle.std.proofs.lemmas.Bool.{lt-ltb, le-leb, eq-eqb, and_from}
 use Rattle.columns.specs.Panels.{PivotsInside, whole, inside_from, swap_refusal, factor_refusal}
 use Rattle.columns.specs.declared.refusal.Refusal.TheVariants.{Length, Place}
-use Rattle.sets.specs.Readings.{PivotsWithin}
+use Rattle.sets.specs.Pivots.{PivotsWithin}
 
 -- without a refusal, what an Ok says
 pub accepted : {T E A : Type 0} {o : Option E} (Q : E → Type 0) (r : Result T E) → result_err r ≡ o → o ≡ None → MatchResult r (λ _. A) Q → A

@@ -10,7 +10,7 @@ use Rattle.columns.proofs.Places.{put_at, put_off, joined_low, joined_high}
 use Rattle.columns.proofs.Eliminations.{back_zeros, back_cong}
 use Rattle.columns.proofs.Factors.{upper_in}
 use Rattle.sets.specs.Memory.{packed}
-use Rattle.sets.specs.Readings.{less_share, back_row_lem}
+use Rattle.sets.specs.Workings.{less_share, back_step}
 use Rattle.sets.proofs.Packings.{entry_inside}
 
 module _ {K : Type 0} (F : Field K) where
@@ -41,8 +41,8 @@ module _ {K : Type 0} (F : Field K) where
         go i (yes l) = joined_low r (back F U r y) y i l
         go i (no n) = joined_high r (back F U r y) y i (omega arith) ∙ zeros i (omega arith) ∙ sym (back_zeros F U r y i (omega arith))
 
-    pub backed_next : (n : ℕ) (y : ℕ → K) → Backed n (back_row_lem F U n y) ≡ Backed (suc n) y
-    unfolding back back_row_lem
+    pub backed_next : (n : ℕ) (y : ℕ → K) → Backed n (back_step F U n y) ≡ Backed (suc n) y
+    unfolding back back_step
     backed_next n y = fun_ext (λ i. go i (dec_lt i n) (ℕ_discrete i n))
       where
         x : K
@@ -57,7 +57,7 @@ module _ {K : Type 0} (F : Field K) where
         before : (i : ℕ) → i < n → z i ≡ rest i
         before i l = put_off n x (joined n rest y) i (omega arith) ∙ joined_low n rest y i l
 
-        go : (i : ℕ) → Dec (i < n) → Dec (i ≡ n) → Backed n (back_row_lem F U n y) i ≡ Backed (suc n) y i
+        go : (i : ℕ) → Dec (i < n) → Dec (i ≡ n) → Backed n (back_step F U n y) i ≡ Backed (suc n) y i
         go i (yes l) d =
             joined_low n (back F U n z) z i l ∙ ap (λ (c : ℕ → K). c i) (back_cong F U n z rest before)
             ∙ sym (joined_low (suc n) (back F U (suc n) y) y i (omega arith) ∙ put_off n x (back F U n rest) i (omega arith))
@@ -69,7 +69,7 @@ module _ {K : Type 0} (F : Field K) where
             ∙ sym (joined_high (suc n) (back F U (suc n) y) y i (omega arith))
 
     -- the same, counted down
-    pub backed_less : (k : ℕ) (y : ℕ → K) → 0 < k → Backed (k - 1) (back_row_lem F U (k - 1) y) ≡ Backed k y
+    pub backed_less : (k : ℕ) (y : ℕ → K) → 0 < k → Backed (k - 1) (back_step F U (k - 1) y) ≡ Backed k y
     backed_less k y l = backed_next (k - 1) y ∙ ap (λ n. Backed n y) (omega arith)
 
     pub backed_all : (k : ℕ) (y : ℕ → K) → k ≡ 0 → Backed k y ≡ y

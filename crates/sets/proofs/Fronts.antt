@@ -10,8 +10,8 @@ use Rattle.columns.specs.Panels.{cells}
 use Rattle.columns.proofs.Places.{put_off, joined_low, joined_high}
 use Rattle.columns.proofs.Sums.{total_cong}
 use Rattle.columns.proofs.Factors.{upper_in}
-use Rattle.sets.specs.Memory.{packed, stored}
-use Rattle.sets.specs.Readings.{front_entry}
+use Rattle.sets.specs.Memory.{packed}
+use Rattle.sets.specs.Workings.{front_entry}
 use Rattle.sets.proofs.Runs.{joined_none}
 use Rattle.sets.proofs.Packings.{entry_inside}
 
@@ -55,11 +55,10 @@ module _ {K : Type 0} (F : Field K) where
       go i (no l) = joined_high n _ (front F U t n) i (omega arith) ∙ front_zeros U t n i (omega arith)
 
 module _ {K X : Type 0} (F : Field K) (value : X → K) where
-  pub front_by_cells : (m r : ℕ) (memory : List X) (pivots : List ℕ)
-      → front F (cells F value m memory) (cells F value m memory (m + 1)) r ≡ front F (upper F (packed F value m r memory pivots)) (stored F value m r memory pivots).target r
-  unfolding stored
-  front_by_cells m r memory pivots =
+  pub front_by_cells : (m r : ℕ) (memory : List X) (pivots : List ℕ) (t : ℕ → K)
+      → front F (cells F value m memory) t r ≡ front F (upper F (packed F value m r memory pivots)) t r
+  front_by_cells m r memory pivots t =
       let s = packed F value m r memory pivots in
-      front_alike F (cells F value m memory) (upper F s) _ _ r
+      front_alike F (cells F value m memory) (upper F s) t t r
       (λ j i l q. sym (upper_in F s j i l ∙ entry_inside F value m r memory pivots j i q))
-      (λ j l. sym (joined_low r (cells F value m memory (m + 1)) _ j l))
+      (λ j l. refl)

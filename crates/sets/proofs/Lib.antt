@@ -16,6 +16,8 @@ pub mod Accepted
 pub mod Packings
 pub mod Leads
 pub mod Dots
+pub mod Written
+pub mod Taken
 pub mod Backs
 pub mod Products
 pub mod Settlings
@@ -24,12 +26,9 @@ pub mod Replies
 pub mod Slots
 pub mod Stores
 pub mod Refusing
-pub mod Combined
-pub mod Eliminated
 pub mod Judged
-pub mod Lent
+pub mod Borrowed
+pub mod Looked
 pub mod Offers
 pub mod Rests
-pub mod Swapped
-pub mod Taken
 pub mod Signs

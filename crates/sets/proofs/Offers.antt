@@ -3,27 +3,24 @@ use Rattle.std.proofs.Common.{◌≡◌, ℕ, ◌+◌, ◌-◌, ◌<◌, ◌≤�
 use native.Mathlib.Decide.{ℕ_discrete}
 use Rattle.std.proofs.lemmas.Bool.Decides.{nat_tests}
 use Rattle.std.proofs.lemmas.Option.{MatchOption-at_some}
-use Rattle.arithmetic.specs.Fields.{Field}
+use Rattle.arithmetic.specs.Fields.{Field, Lawful}
 use Rattle.arithmetic.specs.Runs.{row}
 use Rattle.columns.specs.Swaps.{choose}
 use Rattle.columns.specs.Picks.{Pick, LawfulPick, AllZero, NonzeroAt}
 use Rattle.columns.specs.Factors.{worked, combination}
 use Rattle.columns.specs.declared.refusal.Refusal.{Refusal}
+use Rattle.columns.proofs.Places.{choose_yes, choose_no}
 use Rattle.columns.proofs.Panels.{row_past}
 use Rattle.sets.specs.States.{State, Verdict as Judged, codes, unknowns_in_rows, picked, value_of, repeated, taken_at, decided, offered}
 use Rattle.sets.specs.States.Verdict.{taken, redundant, clash}
 use Rattle.sets.specs.Histories.Step.{offering}
 use Rattle.sets.specs.Refused.{offer_refusal}
 use Rattle.sets.specs.Sets.{Offered, Untouched, state, surplus, seen}
-use Rattle.sets.specs.declared.set.OpenSet.{OpenSet}
+use Rattle.sets.specs.declared.set.Set.{Set}
 use Rattle.sets.specs.declared.verdict.Verdict.{Verdict}
 use Rattle.sets.specs.declared.verdict.Verdict.TheVariants.{Taken, Redundant, Clash}
 use Rattle.sets.proofs.Lists.{length_listed}
 use Rattle.sets.proofs.Stores.{stored_height}
-
-pub not_refused : (o : Option Refusal) (m column answer : ℕ) → o ≡ None → column ≡ m → answer ≡ m → None ≡ offer_refusal o m column answer
-not_refused (Some e) m column answer h p q = cc
-not_refused None m column answer h p q = grind (arith, nat_tests)
 
 module _ {K : Type 0} (F : Field K) (pick : Pick) (s : State K) where
   -- a lawful pick lies in the rest
@@ -48,6 +45,16 @@ module _ {K : Type 0} (F : Field K) (pick : Pick) (s : State K) where
     offered_repeated v u says verdict after =
         ap (decided F s (worked F s.factors b) t) (sym says) ∙ ap₂ {C = Judged K × State K} (λ p w. (p, w)) (sym verdict) (sym after)
 
+-- the verdict on a combination x, from its value v
+module _ {K : Type 0} (F : Field K) (s : State K) (x : ℕ → K) (v t : K) (worth : v ≡ value_of F s x) where
+  pub repeated_redundant : v ≡ t → redundant x ≡ repeated F s x t
+  unfolding repeated
+  repeated_redundant e = sym (choose_yes (ℕ_discrete _ _) _ _ (ap F.code (sym worth ∙ e)))
+
+  pub repeated_clash : Lawful F → ¬ (v ≡ t) → clash v x ≡ repeated F s x t
+  unfolding repeated
+  repeated_clash W n = ap (λ u. clash u x) worth ∙ sym (choose_no (ℕ_discrete _ _) _ _ (λ e. n (worth ∙ W.code_same _ _ e)))
+
 never_taken : {K : Type 0} (j : ℕ) (v : K) (x : ℕ → K) {P : Type 0} (d : Dec P) → ◌≡◌ {A = Judged K} (taken j) (choose d (redundant x) (clash v x)) → ⊥
 never_taken j v x (yes h) e = let z : ◌≡◌ {A = ℕ} 0 1 = cc in omega arith
 never_taken j v x (no h) e = let z : ◌≡◌ {A = ℕ} 0 1 = cc in omega arith
@@ -60,7 +67,7 @@ module _ {K T : Type 0} (F : Field K) (value : T → K) where
   repeated_untouched s x t Redundant before after e = tt
   repeated_untouched s x t (Clash y) before after e = tt
 
-  pub offered_so : (pick : Pick) (s u : OpenSet T) (column : List T) (target : T) (before after : List T) (v : Verdict T) → LawfulPick pick → length column ≡ s.unknowns
+  pub offered_so : {S : Type 0} (pick : Pick) (s u : Set T S) (column : List T) (target : T) (before after : List T) (v : Verdict T) → LawfulPick pick → length column ≡ s.unknowns
       → offered F pick (state F value s) (row F value column) (value target) ≡ (seen F value v after, state F value u) → Untouched v before after → surplus u ≡ surplus s → u.refusal ≡ s.refusal
       → Offered F value pick s column target before u after v
   offered_so pick s u column target before after v lawful long formula untouched surplus refusal = record {

@@ -1,11 +1,12 @@
 -- What the memory's columns are to the packed factors.
-use Rattle.std.proofs.Common.{◌≡◌, ℕ, ◌+◌, ◌-◌, ◌*◌, ◌<◌, ◌≤◌, List, [], length, take, drop, sym, ap, ◌∙◌, mul-le-mul_right, mul_comm, arith}
+use Rattle.std.proofs.Common.{◌≡◌, ℕ, ◌+◌, ◌-◌, ◌*◌, ◌<◌, ◌≤◌, List, [], length, take, drop, get_or, sym, ap, ◌∙◌, mul-le-mul_right, mul_comm, arith}
 use mathlib.Core.Path.{fun_ext}
 use native.Mathlib.Decide.{dec_lt}
 use Rattle.std.proofs.lemmas.List.{length-take, length-take-le, length-drop, take-take}
 use Rattle.std.proofs.lemmas.Slice.{between_is}
 use Rattle.arithmetic.specs.Fields.{Field, Lawful}
 use Rattle.arithmetic.specs.Runs.{row, dot}
+use Rattle.arithmetic.proofs.Rows.{row_inside}
 use Rattle.columns.specs.Swaps.{joined, swapped}
 use Rattle.columns.specs.Factors.{worked}
 use Rattle.columns.specs.Panels.{column_of, cells, offsets, solved, reduced, Solves, Reduces}
@@ -13,22 +14,10 @@ use Rattle.columns.proofs.Places.{joined_low, joined_high}
 use Rattle.columns.proofs.Sums.{total_cong}
 use Rattle.columns.proofs.Panels.{ends, row_past, cells_past}
 use Rattle.columns.proofs.Steps.{worked_by_the_workings, solves_none, reducing_none, reducing_all}
+use Rattle.sets.proofs.Parts.{joined_alike}
+use Rattle.sets.proofs.Runs.{row_take}
 use Rattle.sets.specs.States.{value_of}
 use Rattle.sets.specs.Memory.{packed, stored}
-
--- A memory of m + 2 columns of height m.
-
-pub columns_fit : (r m n size : ℕ) → n ≡ m → r ≤ m → m * (m + 2) ≤ size → r * n ≤ size
-columns_fit r m n size same fits room =
-    let le : r * m ≤ (m + 2) * m = mul-le-mul_right m (omega arith) in
-    omega (arith, ap (λ k. r * k) same, mul_comm m (m + 2))
-
-pub column_ends : (m j size : ℕ) → m * (m + 2) ≤ size → j < m + 2 → j * m + m ≤ size
-column_ends m j size room l = omega (arith, ends j (m + 2) m l, mul_comm m (m + 2))
-
-pub column_high : {X : Type 0} (m : ℕ) (memory : List X) (j : ℕ) → m * (m + 2) ≤ length memory → j < m + 2 → length (column_of m memory j) ≡ m
-column_high m memory j room l =
-    length-take-le m (drop (j * m) memory) (omega (arith, length-drop (j * m) memory, column_ends m j (length memory) room l))
 
 -- a column before column r stands in the first r columns
 kept_column : {X : Type 0} (m r : ℕ) (memory : List X) (j : ℕ) → j < r → column_of m memory j ≡ column_of m (take (r * m) memory) j
@@ -53,15 +42,22 @@ module _ {K X : Type 0} (F : Field K) (value : X → K) where
           let none = no_column m r memory j (omega arith) in
           joined_high r _ _ j (omega arith) ∙ fun_ext (λ i. sym (row_past F value (column_of m (take (r * m) memory) j) i (omega arith)))
 
+  -- packed columns need no more memory than they take
+  pub packed_alone : (m r : ℕ) (memory : List X) (pivots : List ℕ) → packed F value m r (take (r * m) memory) pivots ≡ packed F value m r memory pivots
+  unfolding packed
+  packed_alone m r memory pivots =
+      ap (λ (e : ℕ → ℕ → K). record { height = m; rank = r; entry = e; offset = joined r (offsets pivots) (λ k. 0) })
+      (joined_alike r (cells F value m (take (r * m) memory)) (cells F value m memory) (λ j i. F.zero) (λ j l. ap (row F value) (sym (kept_column m r memory j l))))
+
+  -- element i of the first n of column j
+  pub item_cell : (m : ℕ) (memory column : List X) (j n i : ℕ) (x : X) → column ≡ column_of m memory j → n ≤ length column → i < n → x ≡ get_or (take n column) i x → value x ≡ cells F value m memory j i
+  item_cell m memory column j n i x is le l at =
+      let long = length-take-le n column le in
+      sym (row_inside F value (take n column) i x (omega arith) at) ∙ row_take F value n column i l ∙ ap (λ (xs : List X). row F value xs i) is
+
   pub entry_inside : (m r : ℕ) (memory : List X) (pivots : List ℕ) (j i : ℕ) → j < r → (packed F value m r memory pivots).entry j i ≡ cells F value m memory j i
   unfolding packed
   entry_inside m r memory pivots j i l = ap (λ (c : ℕ → K). c i) (joined_low r (cells F value m memory) _ j l)
-
-  pub value_by_cells : (m r : ℕ) (memory : List X) (pivots : List ℕ) (x : ℕ → K)
-      → value_of F (stored F value m r memory pivots) x ≡ dot F r (cells F value m memory (m + 1)) x
-  unfolding stored packed value_of
-  value_by_cells m r memory pivots x =
-      total_cong F r _ _ (λ k l. ap (λ a. F.product a (x k)) (joined_low r (cells F value m memory (m + 1)) _ k l))
 
 module _ {K X : Type 0} (F : Field K) (W : Lawful F) (value : X → K) where
   pub worked_apart : (m r : ℕ) (memory : List X) (pivots : List ℕ) (b : ℕ → K) → let L = cells F value m (take (r * m) memory) in

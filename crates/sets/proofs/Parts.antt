@@ -14,7 +14,7 @@ by_parts k x y low high = fun_ext (λ j. go j (dec_lt j k))
     go j (no l) = high j (omega arith)
 
 -- places from k on do not count
-joined_alike : {A : Type 0} (k : ℕ) (x z y : ℕ → A) → ((j : ℕ) → j < k → x j ≡ z j) → joined k x y ≡ joined k z y
+pub joined_alike : {A : Type 0} (k : ℕ) (x z y : ℕ → A) → ((j : ℕ) → j < k → x j ≡ z j) → joined k x y ≡ joined k z y
 joined_alike k x z y e =
     by_parts k _ _ (λ j l. joined_low k x y j l ∙ e j l ∙ sym (joined_low k z y j l)) (λ j l. joined_high k x y j l ∙ sym (joined_high k z y j l))
 

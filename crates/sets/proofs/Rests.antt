@@ -3,13 +3,12 @@ use Rattle.std.proofs.Common.{◌≡◌, ℕ, zero, suc, ◌+◌, ◌-◌, ◌<�
 use Rattle.std.proofs.lemmas.List.{get_or-take, get_or-drop}
 use Rattle.arithmetic.specs.Fields.{Field}
 use Rattle.columns.specs.Picks.{Pick}
-use Rattle.columns.specs.Swaps.{swapped, joined}
-use Rattle.columns.specs.Panels.{places, cells, offsets}
-use Rattle.columns.proofs.Places.{joined_low}
+use Rattle.columns.specs.Swaps.{swapped}
+use Rattle.columns.specs.Factors.{permuted}
+use Rattle.columns.specs.Panels.{places}
 use Rattle.columns.proofs.Panels.{places_at}
-use Rattle.columns.proofs.Swaps.{from, swapped_from, from_below, swapped_alike}
-use Rattle.sets.specs.States.{listed, picked, codes, unknowns_in_rows}
-use Rattle.sets.specs.Memory.{packed, stored}
+use Rattle.columns.proofs.Swaps.{from, swapped_from, from_below}
+use Rattle.sets.specs.States.{State, listed, picked, codes, unknowns_in_rows}
 
 -- a list that holds f 0, .., f (n - 1)
 pub listed_is : (n : ℕ) (f : ℕ → ℕ) (xs : List ℕ) → length xs ≡ n → ((k : ℕ) → k < n → get_or xs k 0 ≡ f k) → xs ≡ listed n f
@@ -38,13 +37,14 @@ numbers_swapped o r xs ys inside all same is e k l =
     ∙ places_at xs (from o r k) 0 (omega arith) ∙ ap Some (is (from o r k) below ∙ sym (swapped_from o r (λ i. i) k)))
 
 -- what the chooser is asked, from the code's lists
-pub picked_stored : {K X : Type 0} (F : Field K) (value : X → K) (m r : ℕ) (memory : List X) (pivots : List ℕ) (pick : Pick) (cs us : List ℕ) → length cs ≡ 96 → length us ≡ 96 → r ≤ m → m ≤ 96
-    → ((k : ℕ) → k < m - r → get_or cs k 0 ≡ F.code (cells F value m memory r (r + k))) → ((k : ℕ) → k < 96 → get_or us k 0 ≡ swapped (offsets pivots) r (λ i. i) k)
-    → pick (take (m - r - 0) (drop 0 cs)) (take (m - r) (drop r us)) ≡ picked F pick (stored F value m r memory pivots) (cells F value m memory r)
-unfolding stored packed picked codes unknowns_in_rows
-picked_stored F value m r memory pivots pick cs us lc lu le small codes-are unknowns-are =
-    let none : m - r - 0 ≡ m - r = omega arith in
-    let alike = swapped_alike (offsets pivots) (joined r (offsets pivots) (λ k. 0)) r (λ i. i) (λ k l. sym (joined_low r (offsets pivots) (λ k. 0) k l)) in
+pub picked_from : {K : Type 0} (F : Field K) (s : State K) (w : ℕ → K) (pick : Pick) (n h : ℕ) (cs us : List ℕ) → h ≡ s.factors.height → n ≡ h - s.factors.rank → length cs ≡ 96 → length us ≡ 96 → s.factors.rank ≤ h → h ≤ 96
+    → ((k : ℕ) → k < n → get_or cs k 0 ≡ F.code (w (s.factors.rank + k))) → ((k : ℕ) → k < 96 → get_or us k 0 ≡ permuted s.factors (λ i. i) k)
+    → pick (take n cs) (take (h - s.factors.rank) (drop s.factors.rank us)) ≡ picked F pick s w
+unfolding picked codes unknowns_in_rows
+picked_from F s w pick n h cs us high counted lc lu le small codes-are unknowns-are =
+    let r = s.factors.rank in
+    let m = s.factors.height in
+    let all : h - r ≡ m - r = omega arith in
     ap₂ pick
-    (ap (λ n. take n cs) none ∙ part_listed 0 (m - r) _ cs (omega arith) (λ k l. let e : 0 + k ≡ k = omega arith in ap (λ n. get_or cs n 0) e ∙ codes-are k l))
-    (part_listed r (m - r) _ us (omega arith) (λ k l. unknowns-are (r + k) (omega arith) ∙ ap (λ (x : ℕ → ℕ). x (r + k)) alike))
+    (listed_is (m - r) _ (take n cs) (omega (arith, length-take n cs)) (λ k l. get_or-take n cs k 0 (omega arith) ∙ codes-are k (omega arith)))
+    (ap (λ k. take k (drop r us)) all ∙ part_listed r (m - r) _ us (omega arith) (λ k l. unknowns-are (r + k) (omega arith)))

@@ -69,18 +69,18 @@ module _ (r : ℕ) (pivots : List ℕ) (held : r ≤ length pivots) where
   first_offsets : (k : ℕ) → k < r → offsets (take r pivots) k ≡ joined r (offsets pivots) (λ k. 0) k
   first_offsets k l = get_or-take r pivots k 0 l ∙ sym (joined_low r (offsets pivots) (λ k. 0) k l)
 
-  first_swapped : {Y : Type 0} (b : ℕ → Y) → swapped (offsets (take r pivots)) (length (take r pivots)) b ≡ swapped (joined r (offsets pivots) (λ k. 0)) r b
+  pub first_swapped : {Y : Type 0} (b : ℕ → Y) → swapped (offsets (take r pivots)) (length (take r pivots)) b ≡ swapped (joined r (offsets pivots) (λ k. 0)) r b
   first_swapped b = ap (λ n. swapped (offsets (take r pivots)) n b) first_long ∙ swapped_alike (offsets (take r pivots)) _ r b first_offsets
 
   first_unswapped : {Y : Type 0} (b : ℕ → Y) → unswapped (offsets (take r pivots)) (length (take r pivots)) b ≡ unswapped (joined r (offsets pivots) (λ k. 0)) r b
   first_unswapped b = ap (λ n. unswapped (offsets (take r pivots)) n b) first_long ∙ unswapped_alike (offsets (take r pivots)) _ r b first_offsets
 
 module _ {K X : Type 0} (F : Field K) (value : X → K) where
-  value_at : Option X → K
+  unfoldable pub value_at : Option X → K
   value_at None = F.zero
   value_at (Some x) = value x
 
-  row_places : (xs : List X) → row F value xs ≡ (λ i. value_at (places xs i))
+  pub row_places : (xs : List X) → row F value xs ≡ (λ i. value_at (places xs i))
   unfolding value_at
   row_places xs = fun_ext (go xs)
     where
@@ -124,20 +124,3 @@ module _ {K X : Type 0} (F : Field K) (value : X → K) where
         ∙ sym (unswapped_map value_at (offsets (take r pivots)) (length (take r pivots)) (places xs))
         ∙ ap (unswapped (offsets (take r pivots)) (length (take r pivots))) (sym (row_places xs))
         ∙ first_unswapped r pivots held (row F value xs)
-
--- Zeros from a place on, put in one after another.
-module _ {A : Type 0} (z : A) (x : ℕ → A) where
-  pub cleared_next : (i : ℕ) → joined (i + 1) (put i z x) (λ k. z) ≡ joined i x (λ k. z)
-  cleared_next i = fun_ext (λ k. go k (dec_lt k i) (ℕ_discrete k i))
-    where
-      go : (k : ℕ) → Dec (k < i) → Dec (k ≡ i) → joined (i + 1) (put i z x) (λ k. z) k ≡ joined i x (λ k. z) k
-      go k (yes l) d = joined_low (i + 1) _ _ k (omega arith) ∙ put_off i z x k (omega arith) ∙ sym (joined_low i x _ k l)
-      go k (no n) (yes e) = joined_low (i + 1) _ _ k (omega arith) ∙ ap (put i z x) e ∙ put_at i z x ∙ sym (joined_high i x _ k (omega arith))
-      go k (no n) (no e) = joined_high (i + 1) _ _ k (omega arith) ∙ sym (joined_high i x _ k (omega arith))
-
-  pub cleared_all : (i : ℕ) → ((k : ℕ) → i ≤ k → x k ≡ z) → joined i x (λ k. z) ≡ x
-  cleared_all i past = fun_ext (λ k. go k (dec_lt k i))
-    where
-      go : (k : ℕ) → Dec (k < i) → joined i x (λ k. z) k ≡ x k
-      go k (yes l) = joined_low i x _ k l
-      go k (no n) = joined_high i x _ k (omega arith) ∙ sym (past k (omega arith))

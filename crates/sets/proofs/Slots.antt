@@ -1,5 +1,5 @@
 -- Memory as columns of one height, by place: row i of column j stands at place j × height + i.
-use Rattle.std.proofs.Common.{◌≡◌, ℕ, zero, suc, ◌+◌, ◌-◌, ◌*◌, ◌<◌, ◌≤◌, List, [], ◌∷◌, length, take, drop, set, Some, None, Option, sym, refl, ap, ◌∙◌, mul_comm, arith}
+use Rattle.std.proofs.Common.{◌≡◌, ℕ, zero, suc, ◌+◌, ◌-◌, ◌*◌, ◌<◌, ◌≤◌, List, [], ◌∷◌, ◌++◌, length, take, drop, set, Some, None, Option, sym, refl, ap, ◌∙◌, mul_comm, arith}
 use mathlib.Core.Path.{fun_ext}
 use native.Mathlib.Decide.{ℕ_discrete, dec_lt}
 use borrow.Rule.Slice.PartMut.{put_mid}
@@ -11,6 +11,7 @@ use Rattle.columns.specs.Swaps.{put, exchange}
 use Rattle.columns.specs.Panels.{column_of, places, cells}
 use Rattle.columns.proofs.Places.{put_at, put_off, put_is}
 use Rattle.columns.proofs.Panels.{within, ends, row_set, cells_past, places_exchanged}
+use Rattle.sets.proofs.Runs.{value_at, row_places, row_take, row_drop}
 use Rattle.columns.proofs.Swaps.{exchange_left, exchange_else, exchange_cases, exchange_twice}
 
 -- a place in one of the m + 2 slots of height m
@@ -43,19 +44,8 @@ exchange_shifted o a b i = go (ℕ_discrete i a) (ℕ_discrete i b)
     go (no n) (no k) = exchange_else (o + a) (o + b) (o + i) (omega arith) (omega arith) ∙ ap (λ n. o + n) (sym (exchange_else a b i n k))
 
 module _ {K X : Type 0} (F : Field K) (value : X → K) where
-  pub row_drop : (a : ℕ) (xs : List X) (i : ℕ) → row F value (drop a xs) i ≡ row F value xs (a + i)
-  row_drop zero xs i = ap (row F value xs) (omega arith)
-  row_drop (suc a) [] i = refl
-  row_drop (suc a) (x ∷ xs) i = let e : suc (a + i) ≡ suc a + i = omega arith in row_drop a xs i ∙ ap (row F value (x ∷ xs)) e
-
-  pub row_take : (n : ℕ) (xs : List X) (i : ℕ) → i < n → row F value (take n xs) i ≡ row F value xs i
-  row_take zero xs i h = absurd (omega arith)
-  row_take (suc n) [] i h = refl
-  row_take (suc n) (x ∷ xs) zero h = refl
-  row_take (suc n) (x ∷ xs) (suc i) h = row_take n xs i (omega arith)
-
   pub cells_place : (xs : List X) (h j i : ℕ) → i < h → cells F value h xs j i ≡ row F value xs (j * h + i)
-  cells_place xs h j i l = row_take h (drop (j * h) xs) i l ∙ row_drop (j * h) xs i
+  cells_place xs h j i l = row_take F value h (drop (j * h) xs) i l ∙ row_drop F value (j * h) xs i
 
   -- an element written
   pub cells_set : (xs : List X) (h j i : ℕ) (y : X) → i < h → j * h + i < length xs → cells F value h (set xs (j * h + i) y) ≡ put j (put i (value y) (cells F value h xs j)) (cells F value h xs)
@@ -85,20 +75,10 @@ module _ {K X : Type 0} (F : Field K) (value : X → K) where
       here = sym (put_is i (value y) (cells F value h xs j) (cells F value h ys j)
           (cells_place ys h j i hi ∙ at (j * h + i) ∙ put_at (j * h + i) (value y) (row F value xs)) (λ k n. beside k n (dec_lt k h)))
 
-  -- what stands at a place, in values
-  shown : Option X → K
-  shown None = F.zero
-  shown (Some x) = value x
-
-  row_shown : (xs : List X) (i : ℕ) → row F value xs i ≡ shown (places xs i)
-  unfolding shown
-  row_shown [] i = refl
-  row_shown (x ∷ xs) zero = refl
-  row_shown (x ∷ xs) (suc i) = row_shown xs i
-
   -- lists whose elements stand at places of each other
   pub row_moved : (xs ys : List X) (move : ℕ → ℕ) → places ys ≡ (λ i. places xs (move i)) → row F value ys ≡ (λ i. row F value xs (move i))
-  row_moved xs ys move e = fun_ext (λ i. row_shown ys i ∙ ap (λ (p : ℕ → Option X). shown (p i)) e ∙ sym (row_shown xs (move i)))
+  row_moved xs ys move e =
+      row_places F value ys ∙ ap {B = ℕ → K} (λ p i. value_at F value (p i)) e ∙ ap {B = ℕ → K} (λ r i. r (move i)) (sym (row_places F value xs))
 
   -- two elements of one column exchanged
   pub cells_exchanged : (xs ys : List X) (h j a b : ℕ) → a < h → b < h → j * h + a < length xs → j * h + b < length xs → ys ≡ swap xs (j * h + a) (j * h + b)
@@ -146,10 +126,17 @@ module _ {K X : Type 0} (F : Field K) (value : X → K) where
           let f : j * h + h ≤ l * h = ends j l h (omega arith) in
           ap (take h) (drop-put_mid (j * h) (e - j * h) xs ys (l * h) (omega arith) (omega arith) (omega arith))
 
+  -- column j lent between the columns before it and those after it, and given back as ys
+  pub cells_spliced : (h j : ℕ) (xs ys zs : List X) → j * h + h ≤ length xs → length ys ≡ h → zs ≡ take (j * h) xs ++ (ys ++ drop h (drop (j * h) xs)) → cells F value h zs ≡ put j (row F value ys) (cells F value h xs)
+  cells_spliced h j xs ys zs room long is =
+      let e : j * h + h - j * h ≡ h = omega arith in
+      ap (cells F value h) (is ∙ ap (λ k. put_mid (j * h) k xs ys) (sym e))
+      ∙ cells_lent xs ys h j (j * h + h) refl room long
+
   -- the first n elements alone hold the columns that end within them
   pub cells_front : (xs : List X) (n h j : ℕ) → j * h + h ≤ n → cells F value h (take n xs) j ≡ cells F value h xs j
   cells_front xs n h j le = fun_ext (λ i. go i (dec_lt i h))
     where
       go : (i : ℕ) → Dec (i < h) → cells F value h (take n xs) j i ≡ cells F value h xs j i
-      go i (yes l) = cells_place (take n xs) h j i l ∙ row_take n xs (j * h + i) (omega arith) ∙ sym (cells_place xs h j i l)
+      go i (yes l) = cells_place (take n xs) h j i l ∙ row_take F value n xs (j * h + i) (omega arith) ∙ sym (cells_place xs h j i l)
       go i (no q) = cells_past F value (take n xs) h j i (omega arith) ∙ sym (cells_past F value xs h j i (omega arith))

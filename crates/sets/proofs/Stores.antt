@@ -1,33 +1,26 @@
 -- The state that memory stands for.
-use Rattle.std.proofs.Common.{◌≡◌, ℕ, ◌+◌, ◌*◌, ◌<◌, ◌≤◌, List, length, take, set, sym, refl, ap, ◌∙◌, add-one, arith, get_or-set_other, get_or-set_same}
+use Rattle.std.proofs.Common.{◌≡◌, ℕ, ◌+◌, ◌*◌, ◌<◌, ◌≤◌, List, length, take, drop, set, sym, refl, ap, ◌∙◌, add-one, arith, get_or-set_other, get_or-set_same, length-take}
 use mathlib.Core.Path.{fun_ext}
 use native.Mathlib.Decide.{ℕ_discrete, dec_lt}
 use Rattle.arithmetic.specs.Fields.{Field}
-use Rattle.arithmetic.specs.Runs.{dot}
+use Rattle.arithmetic.specs.Runs.{row, dot}
 use Rattle.columns.specs.Swaps.{put, joined, exchange}
 use Rattle.columns.specs.Factors.{turned, divided}
 use Rattle.columns.specs.Panels.{cells, offsets}
 use Rattle.columns.proofs.Places.{put_at, put_off, joined_low, joined_high}
 use Rattle.columns.proofs.Sums.{total_cong}
+use Rattle.columns.proofs.Panels.{row_past}
 use Rattle.sets.specs.States.{State, made, value_of, taken_at}
 use Rattle.sets.specs.Memory.{packed, stored}
 use Rattle.sets.specs.Workings.{divided_below}
+use Rattle.sets.proofs.Parts.{by_parts, joined_alike}
+use Rattle.sets.proofs.Runs.{joined_none, row_take}
 use Rattle.sets.proofs.Slots.{slot_end, cells_front}
 
 -- states with equal parts
 same_state : {K : Type 0} {h h' r r' : ℕ} {e e' : ℕ → ℕ → K} {o o' : ℕ → ℕ} {t t' : ℕ → K} → h ≡ h' → r ≡ r' → e ≡ e' → o ≡ o' → t ≡ t'
     → ◌≡◌ {A = State K} (record { factors = record { height = h; rank = r; entry = e; offset = o }; target = t }) (record { factors = record { height = h'; rank = r'; entry = e'; offset = o' }; target = t' })
 same_state a b c d e = λ i. record { factors = record { height = a i; rank = b i; entry = c i; offset = d i }; target = e i }
-
-joined_none : {A : Type 0} (x y : ℕ → A) → joined 0 x y ≡ y
-joined_none x y = fun_ext (λ j. joined_high 0 x y j (omega arith))
-
-joined_same : {A : Type 0} (r : ℕ) (x y z : ℕ → A) → ((j : ℕ) → j < r → x j ≡ y j) → joined r x z ≡ joined r y z
-joined_same r x y z e = fun_ext (λ j. go j (dec_lt j r))
-  where
-    go : (j : ℕ) → Dec (j < r) → joined r x z j ≡ joined r y z j
-    go j (yes l) = joined_low r x z j l ∙ e j l ∙ sym (joined_low r y z j l)
-    go j (no n) = joined_high r x z j (omega arith) ∙ sym (joined_high r y z j (omega arith))
 
 -- one place more, where a stands
 joined_put : {A : Type 0} (r : ℕ) (a : A) (x y z : ℕ → A) → ((j : ℕ) → j < r → x j ≡ y j) → x r ≡ a → joined (r + 1) x z ≡ put r a (joined r y z)
@@ -52,7 +45,7 @@ joined_moved {A} r move M Z = fun_ext (λ j. go j (dec_lt j r))
 module _ {K X : Type 0} (F : Field K) (value : X → K) where
   pub stored_none : (m : ℕ) (xs : List X) (ps : List ℕ) → stored F value m 0 xs ps ≡ made F m
   unfolding stored packed
-  stored_none m xs ps = same_state refl refl (joined_none (cells F value m xs) (λ j i. F.zero)) (joined_none (offsets ps) (λ k. 0)) (joined_none (cells F value m xs (m + 1)) (λ j. F.zero))
+  stored_none m xs ps = same_state refl refl (sym (joined_none (cells F value m xs) (λ j i. F.zero))) (sym (joined_none (offsets ps) (λ k. 0))) (sym (joined_none (cells F value m xs (m + 1)) (λ j. F.zero)))
 
   module _ (m r : ℕ) (xs : List X) (ps : List ℕ) where
     pub stored_height : (stored F value m r xs ps).factors.height ≡ m
@@ -71,19 +64,20 @@ module _ {K X : Type 0} (F : Field K) (value : X → K) where
     unfolding stored packed
     stored_offset k l = joined_low r (offsets ps) (λ k. 0) k l
 
-    pub stored_target : (k : ℕ) → k < r → (stored F value m r xs ps).target k ≡ cells F value m xs (m + 1) k
-    unfolding stored packed
-    stored_target k l = joined_low r (cells F value m xs (m + 1)) (λ j. F.zero) k l
-
-    pub stored_value : (x : ℕ → K) → dot F r (cells F value m xs (m + 1)) x ≡ value_of F (stored F value m r xs ps) x
-    unfolding stored packed value_of
-    stored_value x = total_cong F r _ _ (λ k l. ap (λ a. F.product a (x k)) (sym (stored_target k l)))
+  -- the targets of the columns held, as a part of the memory
+  pub stored_targets : (m r : ℕ) (xs : List X) (ps : List ℕ) → r ≤ m → row F value (take r (drop ((m + 1) * m) xs)) ≡ (stored F value m r xs ps).target
+  unfolding stored packed
+  stored_targets m r xs ps le =
+      let slot = drop ((m + 1) * m) xs in
+      by_parts r (row F value (take r slot)) (stored F value m r xs ps).target
+      (λ j l. row_take F value r slot j l ∙ sym (row_take F value m slot j (omega arith)) ∙ sym (joined_low r (cells F value m xs (m + 1)) (λ j. F.zero) j l))
+      (λ j l. row_past F value (take r slot) j (omega (arith, length-take r slot)) ∙ sym (joined_high r (cells F value m xs (m + 1)) (λ j. F.zero) j l))
 
   -- only the held columns and their targets count
   pub stored_same : (m r : ℕ) (xs ys : List X) (ps : List ℕ) → ((j : ℕ) → j < r → cells F value m xs j ≡ cells F value m ys j) → cells F value m xs (m + 1) ≡ cells F value m ys (m + 1) → stored F value m r xs ps ≡ stored F value m r ys ps
   unfolding stored packed
   stored_same m r xs ys ps columns targets =
-      same_state refl refl (joined_same r (cells F value m xs) (cells F value m ys) (λ j i. F.zero) columns) refl (ap (λ t. joined r t (λ j. F.zero)) targets)
+      same_state refl refl (joined_alike r (cells F value m xs) (cells F value m ys) (λ j i. F.zero) columns) refl (ap (λ t. joined r t (λ j. F.zero)) targets)
 
   -- and they stand in the first m + 2 slots
   pub slot_front : (m j : ℕ) (xs : List X) → j < m + 2 → cells F value m (take (m * (m + 2)) xs) j ≡ cells F value m xs j

@@ -1,13 +1,12 @@
--- A column's taking, row after row and column after column.
-use Rattle.std.proofs.Common.{◌≡◌, ℕ, ◌+◌, ◌<◌, ◌≤◌, sym, ap, ◌∙◌, add-one, arith}
+-- A column's taking: rows exchanged column after column, and the rows after its pivot divided.
+use Rattle.std.proofs.Common.{◌≡◌, ℕ, ◌+◌, ◌-◌, ◌<◌, ◌≤◌, sym, ap, ◌∙◌, add-one, arith}
 use mathlib.Core.Path.{fun_ext}
 use native.Mathlib.Decide.{dec_lt}
-use Rattle.arithmetic.specs.Fields.{Field, Lawful}
-use Rattle.columns.specs.Swaps.{put, joined}
-use Rattle.columns.proofs.Places.{choose_yes, choose_no, put_same, joined_low, joined_high, joined_next}
-use Rattle.columns.proofs.Rings.{zero_by_left}
+use Rattle.arithmetic.specs.Fields.{Field}
+use Rattle.columns.specs.Swaps.{put, joined, exchange}
+use Rattle.columns.proofs.Places.{choose_yes, choose_no, put_at, put_off, joined_low, joined_high, joined_next}
 use Rattle.sets.specs.Workings.{divided_below}
-use Rattle.sets.proofs.Eliminated.{put_again}
+use Rattle.sets.proofs.Parts.{by_parts}
 
 pub changed_none : {A : Type 0} (f M : ℕ → A) → M ≡ joined 0 f M
 changed_none f M = sym (fun_ext (λ j. joined_high 0 f M j (omega arith)))
@@ -21,7 +20,7 @@ changed_next {A} g M N j e =
 
 module _ {K : Type 0} (F : Field K) (r : ℕ) where
   infixl 70 ◌⊙◌
-  open F use {zero as 𝟘, product as ◌⊙◌, inverse}
+  open F use {product as ◌⊙◌, inverse}
 
   divided_at : (x : ℕ → K) (i : ℕ) → r < i → divided_below F r x i ≡ x i ⊙ inverse (x r)
   unfolding divided_below
@@ -31,29 +30,31 @@ module _ {K : Type 0} (F : Field K) (r : ℕ) where
   unfolding divided_below
   divided_not x i l = choose_no (dec_lt r i) _ _ (λ q. omega arith)
 
-  pub divided_none : (M : ℕ → ℕ → K) → M ≡ put r (joined (r + 1) (divided_below F r (M r)) (M r)) M
-  divided_none M = sym (ap (λ x. put r x M) (fun_ext (λ i. go i (dec_lt i (r + 1)))) ∙ put_same r M)
-    where
-      go : (i : ℕ) → Dec (i < r + 1) → joined (r + 1) (divided_below F r (M r)) (M r) i ≡ M r i
-      go i (yes l) = joined_low (r + 1) (divided_below F r (M r)) (M r) i l ∙ divided_not (M r) i (omega arith)
-      go i (no n) = joined_high (r + 1) (divided_below F r (M r)) (M r) i (omega arith)
+  -- rows up to row r stay, and the others are multiplied by its inverse
+  pub divided_by_parts : (x y : ℕ → K) → ((i : ℕ) → i < r + 1 → y i ≡ x i) → ((k : ℕ) → y (r + 1 + k) ≡ x (r + 1 + k) ⊙ inverse (x r)) → y ≡ divided_below F r x
+  divided_by_parts x y same divided = by_parts (r + 1) y (divided_below F r x)
+      (λ i l. same i l ∙ sym (divided_not x i (omega arith)))
+      (λ i l.
+      let e : r + 1 + (i - (r + 1)) ≡ i = omega arith in
+      ap y (sym e) ∙ divided (i - (r + 1)) ∙ ap (λ j. x j ⊙ inverse (x r)) e ∙ sym (divided_at x i (omega arith)))
 
-  -- row i of memory N divided too, where those from r + 1 to i - 1 are
-  pub divided_next : (M N : ℕ → ℕ → K) (i : ℕ) → r < i → N ≡ put r (joined i (divided_below F r (M r)) (M r)) M
-      → put r (put i (N r i ⊙ inverse (M r r)) (N r)) N ≡ put r (joined (i + 1) (divided_below F r (M r)) (M r)) M
-  divided_next M N i l e =
-      let D = divided_below F r (M r) in
-      let R = joined i D (M r) in
-      let here : R i ⊙ inverse (M r r) ≡ D i = ap (λ a. a ⊙ inverse (M r r)) (joined_high i D (M r) i (omega arith)) ∙ sym (divided_at (M r) i l) in
-      put_again r R M N (λ x. put i (x i ⊙ inverse (M r r)) x) e
-      ∙ ap (λ x. put r x M) (ap (λ a. put i a R) here ∙ joined_next i D (M r) ∙ ap (λ n. joined n D (M r)) (sym (add-one i)))
+-- M's rows r and r + q are exchanged in its columns up to column r, which is divided, and column p gets the target t in row r
+module _ {K : Type 0} (F : Field K) (r q p : ℕ) (t : K) (M A B C : ℕ → ℕ → K) (exchanges : A ≡ joined (r + 1) (λ j i. M j (exchange r (r + q) i)) M) (divides : B ≡ put r (divided_below F r (A r)) A)
+    (past : r < p) (stores : C ≡ put p (put r t (B p)) B) where
+  column : (G H : ℕ → ℕ → K) (j : ℕ) → G ≡ H → G j ≡ H j
+  column G H j e = ap (λ (E : ℕ → ℕ → K). E j) e
 
-  -- past the height, where all is zero, nothing changes
-  pub divided_all : Lawful F → (M : ℕ → ℕ → K) (h : ℕ) → r < h → ((j i : ℕ) → h ≤ i → M j i ≡ 𝟘) → put r (joined h (divided_below F r (M r)) (M r)) M ≡ put r (divided_below F r (M r)) M
-  divided_all W M h below flat = ap (λ x. put r x M) (fun_ext (λ i. go i (dec_lt i h)))
-    where
-      go : (i : ℕ) → Dec (i < h) → joined h (divided_below F r (M r)) (M r) i ≡ divided_below F r (M r) i
-      go i (yes l) = joined_low h (divided_below F r (M r)) (M r) i l
-      go i (no n) =
-          joined_high h (divided_below F r (M r)) (M r) i (omega arith) ∙ flat r i (omega arith)
-          ∙ sym (divided_at (M r) i (omega arith) ∙ zero_by_left F W (inverse (M r r)) (flat r i (omega arith)))
+  exchanged : (j : ℕ) → j < r + 1 → A j ≡ (λ i. M j (exchange r (r + q) i))
+  exchanged j l = column _ _ j exchanges ∙ joined_low (r + 1) (λ j i. M j (exchange r (r + q) i)) M j l
+
+  pub taken_held : (j : ℕ) → j < r → C j ≡ (λ i. M j (exchange r (r + q) i))
+  taken_held j l = column _ _ j stores ∙ put_off p _ B j (omega arith) ∙ column _ _ j divides ∙ put_off r _ A j (omega arith) ∙ exchanged j (omega arith)
+
+  pub taken_next : C r ≡ divided_below F r (λ i. M r (exchange r (r + q) i))
+  taken_next =
+      column _ _ r stores ∙ put_off p _ B r (omega arith) ∙ column _ _ r divides ∙ put_at r _ A ∙ ap (divided_below F r) (exchanged r (omega arith))
+
+  pub taken_target : C p ≡ put r t (M p)
+  taken_target =
+      column _ _ p stores ∙ put_at p _ B
+      ∙ ap (put r t) (column _ _ p divides ∙ put_off r _ A p (omega arith) ∙ column _ _ p exchanges ∙ joined_high (r + 1) (λ j i. M j (exchange r (r + q) i)) M p (omega arith))

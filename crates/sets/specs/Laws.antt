@@ -1,5 +1,5 @@
 -- The laws of sets: what holds of every history, and of every two.
-use Rattle.std.specs.Prelude.{◌≡◌, ℕ, ◌<◌, ◌≤◌, ◌↔◌, List, ◌∷◌, ◌++◌, length, get_or, slice_index_or}
+use Rattle.std.specs.Prelude.{◌≡◌, ℕ, ◌<◌, ◌≤◌, ◌↔◌, List, ◌∷◌, ◌++◌, length, slice_index_or}
 use Rattle.arithmetic.specs.Fields.{Field}
 use Rattle.arithmetic.specs.Runs.{dot}
 use Rattle.columns.specs.Linear.{Selection, multiply, Independent, Motion}
@@ -37,7 +37,7 @@ module _ {K : Type 0} (F : Field K) where
 
   -- the column judged at place p
   unfoldable pub judged_column : List (Call K) → ℕ → ℕ → K
-  judged_column cs p = (get_or (judgements cs) p (record { column = λ i. 𝟘; target = 𝟘; verdict = taken 0 })).column
+  judged_column cs p = (slice_index_or (judgements cs) p (record { column = λ i. 𝟘; target = 𝟘; verdict = taken 0 })).column
 
   -- P A = L U, L unit lower, U upper and nowhere zero on its diagonal
   pub record Factored (m : ℕ) (h : Held K) (s : Packed K) : Type 0 where

@@ -3,7 +3,8 @@ pub mod Subject
 pub mod Histories
 pub mod Laws
 pub mod Memory
-pub mod Readings
+pub mod Pivots
+pub mod Lent
 pub mod Workings
 pub mod Refused
 pub mod Sets

@@ -1,11 +1,11 @@
 -- When a call of a set is refused.
-use Rattle.std.specs.Prelude.{ℕ, ◌+◌, ◌*◌, cond, Some, None, Option, ◌==◌, nat_lt}
+use Rattle.std.specs.Prelude.{ℕ, ◌+◌, ◌*◌, ◌&&◌, if◌then◌else◌, Some, None, Option, ◌==◌, nat_lt}
 use Rattle.columns.specs.declared.refusal.Refusal.{Refusal}
 use Rattle.columns.specs.declared.refusal.Refusal.TheVariants.{Unknowns, Memory, Length, Missing, Place}
 
 -- the making of a set of m unknowns over n elements of memory
 abbrev pub make_refusal : ℕ → ℕ → Option Refusal
-make_refusal m n = cond (m == 0) (Some Unknowns) (cond (nat_lt 96 m) (Some Unknowns) (cond (nat_lt n (m * (m + 2))) (Some Memory) None))
+make_refusal m n = if m == 0 then Some Unknowns else if nat_lt 96 m then Some Unknowns else if nat_lt n (m * (m + 2)) then Some Memory else None
 
 -- how many unknowns the set has then
 abbrev pub allowed : Option Refusal → ℕ → ℕ
@@ -15,19 +15,19 @@ allowed (Some e) m = 0
 -- an offer to a set of m unknowns that was itself refused so, by the lengths of the column and of the answer run
 abbrev pub offer_refusal : Option Refusal → ℕ → ℕ → ℕ → Option Refusal
 offer_refusal (Some e) m column answer = Some e
-offer_refusal None m column answer = cond (column == m) (cond (answer == m) None (Some Length)) (Some Length)
+offer_refusal None m column answer = if column == m && answer == m then None else Some Length
 
 -- a rebuild, by the length of the answer run, the place and how many columns are held
 abbrev pub rebuild_refusal : Option Refusal → ℕ → ℕ → ℕ → ℕ → Option Refusal
 rebuild_refusal (Some e) m answer place held = Some e
-rebuild_refusal None m answer place held = cond (answer == m) (cond (nat_lt place held) None (Some Place)) (Some Length)
+rebuild_refusal None m answer place held = if answer == m then if nat_lt place held then None else Some Place else Some Length
 
 -- a determinant, while fewer columns are held than there are unknowns
 abbrev pub determinant_refusal : Option Refusal → ℕ → ℕ → Option Refusal
 determinant_refusal (Some e) m held = Some e
-determinant_refusal None m held = cond (nat_lt held m) (Some Missing) None
+determinant_refusal None m held = if nat_lt held m then Some Missing else None
 
 -- a solution, by the length of the answer run too
 abbrev pub solution_refusal : Option Refusal → ℕ → ℕ → ℕ → Option Refusal
 solution_refusal (Some e) m answer held = Some e
-solution_refusal None m answer held = cond (answer == m) (cond (nat_lt held m) (Some Missing) None) (Some Length)
+solution_refusal None m answer held = if answer == m then if nat_lt held m then Some Missing else None else Some Length

@@ -1,23 +1,47 @@
 // What a set is.
-ghost use Rattle.std.specs.Prelude.{ℕ, ◌+◌, ◌*◌, ◌<◌, ◌≤◌, vec_len, slice_index};
+ghost use Rattle.std.specs.Prelude.{◌+◌, ◌*◌, ◌≤◌, vec_len};
+ghost use Rattle.sets.specs.Pivots.{PivotsWithin};
 
 use columns::Refusal;
 
 mod asking;
+mod choosing;
 mod making;
 mod offer;
-mod solving;
+mod reading;
+mod sealing;
+mod taking;
+
+// Whether columns may still be offered to a set.
+pub trait Stage: Copy {}
+
+// They may.
+#[derive(Clone, Copy)]
+pub struct Open;
+
+// They may not, and a full set can be solved.
+#[derive(Clone, Copy)]
+pub struct Sealed;
+
+impl Stage for Open {}
+
+impl Stage for Sealed {}
 
 // The memory has `unknowns + 2` slots of `unknowns` elements: the held columns' factors, the next column, and the targets in the last slot.
 #[derive(Drop)]
-pub struct OpenSet<T> {
+pub struct Set<T, S: Stage> {
     memory: Vec<T>,
     unknowns: usize,
     held: usize,
     pivots: [usize; 96],
     refusal: Option<Refusal>,
+    stage: S,
     ghost size: { unknowns ≤ 96 },
     ghost few: { held ≤ unknowns },
     ghost room: { unknowns * (unknowns + 2) ≤ vec_len memory },
-    ghost inside: { ((k : ℕ) → k < held → k + slice_index pivots k < unknowns) },
+    ghost inside: { PivotsWithin unknowns held pivots },
 }
+
+pub type OpenSet<T> = Set<T, Open>;
+
+pub type SealedSet<T> = Set<T, Sealed>;

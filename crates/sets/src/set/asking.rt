@@ -1,22 +1,18 @@
 // What a set is asked: enquiries, and held columns again.
-ghost use Rattle.std.specs.Prelude.{◌≡◌, ℕ, ◌+◌, ◌*◌, ◌<◌, ◌≤◌, length, MatchResult};
+ghost use Rattle.std.specs.Prelude.{◌≡◌, length, MatchResult};
 ghost use Rattle.std.specs.Result.{result_err};
 ghost use Rattle.sets.specs.Refused.{offer_refusal, rebuild_refusal};
 ghost use Rattle.sets.specs.Sets.{state};
 ghost use Rattle.sets.specs.Asked.{Enquired, Rebuilt};
 
-use super::OpenSet;
-use crate::combining::{combine_back, value_of};
-use crate::moving::motion_into;
-use crate::reading::{cell, leading, work_apart};
-use crate::rebuilding::rebuild_into;
+use super::{Set, Stage};
 use crate::reply::Reply;
 use arithmetic::Arithmetic;
 use columns::Refusal;
 
-impl<T: Arithmetic> OpenSet<T> {
+impl<T: Arithmetic, S: Stage> Set<T, S> {
     // Refuses runs that are not as long as there are unknowns; a refused set refuses all.
-    pub(crate) fn accept(&self, first: usize, second: usize) -> Result<(), Refusal>
+    pub(super) fn accept(&self, first: usize, second: usize) -> Result<(), Refusal>
         ensures { result_err result ≡ offer_refusal self.now.refusal self.now.unknowns first second }
     {
         if let Some(refusal) = self.refusal {
@@ -35,15 +31,15 @@ impl<T: Arithmetic> OpenSet<T> {
     {
         self.accept(query.len(), answer.len())?;
         answer.copy_from_slice(query);
-        let memory = self.memory.as_slice();
-        work_apart(memory, self.held, &self.pivots, answer);
-        match leading(self.held, answer) {
+        let factors = self.factors();
+        factors.work(answer);
+        match factors.leading(answer) {
             None => {
-                combine_back(memory, self.held, answer);
-                Ok(Reply::Fixed(value_of(memory, self.held, answer)))
+                factors.combine(answer);
+                Ok(Reply::Fixed(self.value(answer)))
             }
             Some(place) => {
-                motion_into(memory, self.held, &self.pivots, place, answer);
+                factors.show_motion(place, answer);
                 Ok(Reply::Free)
             }
         }
@@ -58,8 +54,7 @@ impl<T: Arithmetic> OpenSet<T> {
         if place >= self.held {
             return Err(Refusal::Place);
         }
-        let memory = self.memory.as_slice();
-        rebuild_into(memory, self.held, &self.pivots, place, answer);
-        Ok(cell(memory, self.unknowns, self.unknowns + 1, place))
+        self.factors().rebuild(place, answer);
+        Ok(self.targets()[place])
     }
 }

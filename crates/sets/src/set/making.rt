@@ -1,64 +1,77 @@
-// The making and the end of a set, and what is read off it.
-ghost use Rattle.std.specs.Prelude.{◌≡◌, ℕ, ◌+◌, ◌*◌, ◌<◌, ◌≤◌, [], vec_len, MatchOption};
+// The making and the end of a set, and what anyone may read off it.
+ghost use Rattle.std.specs.Prelude.{◌≡◌, ◌+◌, ◌*◌, ◌<◌, ◌≤◌, [], vec_len, IfOk, MatchOption};
+ghost use Rattle.std.specs.Result.{result_err};
 ghost use Rattle.sets.specs.States.{made};
 ghost use Rattle.sets.specs.Histories.{History};
 ghost use Rattle.sets.specs.Refused.{make_refusal, allowed};
 ghost use Rattle.sets.specs.Sets.{state};
 
-use super::OpenSet;
+use super::{Open, OpenSet, Set, Stage};
 use arithmetic::Arithmetic;
 use columns::Refusal;
 
-// Why a set of so many unknowns over so much memory is refused.
-fn unfit(unknowns: usize, size: usize) -> Option<Refusal>
-    ensures { result ≡ make_refusal unknowns size }
+// How many unknowns a set over so much memory has, unless it is refused.
+fn fitting(unknowns: usize, size: usize) -> Result<usize, Refusal>
+    ensures refused { result_err result ≡ make_refusal unknowns size }
+    ensures all { IfOk result (λ n. n ≡ unknowns) }
+    ensures few { IfOk result (λ n. n ≤ 96) }
+    ensures room { IfOk result (λ n. n * (n + 2) ≤ size) }
 {
     if unknowns == 0 || unknowns > 96 {
-        return Some(Refusal::Unknowns);
+        return Err(Refusal::Unknowns);
     }
     if size < unknowns * (unknowns + 2) {
-        return Some(Refusal::Memory);
+        return Err(Refusal::Memory);
     }
-    None
+    Ok(unknowns)
 }
 
-impl<T: Arithmetic> OpenSet<T> {
-    // A set that holds nothing. A refused one has no unknowns, and answers its refusal to every call but the end.
+impl<T: Arithmetic> Set<T, Open> {
+    // A set of so many unknowns that holds nothing.
+    fn empty(unknowns: usize, memory: Vec<T>, refusal: Option<Refusal>) -> OpenSet<T>
+        requires few { unknowns ≤ 96 }
+        requires room { unknowns * (unknowns + 2) ≤ vec_len memory }
+        ensures memory { result.memory ≡ memory }
+        ensures refusal { result.refusal ≡ refusal }
+        ensures unknowns { result.unknowns ≡ unknowns }
+        ensures state { state T.field.ops T.value result ≡ made T.field.ops unknowns }
+    {
+        Set {
+            memory,
+            unknowns,
+            held: 0,
+            pivots: [0; 96],
+            refusal,
+            stage: Open,
+        }
+    }
+
+    // A set that holds nothing. A refused one has no unknowns, and answers its refusal to every call but the seal and the end.
     pub fn make(unknowns: usize, memory: Vec<T>) -> OpenSet<T>
         ensures memory { result.memory ≡ memory }
         ensures refusal { result.refusal ≡ make_refusal unknowns (vec_len memory) }
         ensures state { state T.field.ops T.value result ≡ made T.field.ops (allowed (make_refusal unknowns (vec_len memory)) unknowns) }
         ensures started { History T.field.ops result.unknowns [] (state T.field.ops T.value result) }
     {
-        let refusal = unfit(unknowns, memory.len());
-        if refusal.is_some() {
-            return OpenSet {
-                memory,
-                unknowns: 0,
-                held: 0,
-                pivots: [0; 96],
-                refusal,
-            };
-        }
-        OpenSet {
-            memory,
-            unknowns,
-            held: 0,
-            pivots: [0; 96],
-            refusal,
+        match fitting(unknowns, memory.len()) {
+            Ok(unknowns) => Set::empty(unknowns, memory, None),
+            Err(refusal) => Set::empty(0, memory, Some(refusal)),
         }
     }
+}
 
+impl<T: Arithmetic, S: Stage> Set<T, S> {
     // Gives the memory back.
     pub fn end(self) -> Vec<T>
         ensures { result ≡ self.memory }
     {
-        let OpenSet {
+        let Set {
             memory,
             unknowns: _,
             held: _,
             pivots: _,
             refusal: _,
+            stage: _,
         } = self;
         memory
     }
@@ -85,21 +98,13 @@ impl<T: Arithmetic> OpenSet<T> {
     pub fn pivot(&self, k: usize) -> Option<usize>
         ensures { MatchOption result (self.now.held ≤ k) (λ p. (k < self.now.held) × (p ≡ (state T.field.ops T.value self.now).factors.offset k)) }
     {
-        if k < self.held {
-            Some(self.pivots[k])
-        } else {
-            None
-        }
+        self.pivots[..self.held].get(k).copied()
     }
 
     // The target of the column held at place k.
     pub fn target(&self, k: usize) -> Option<T>
         ensures { MatchOption result (self.now.held ≤ k) (λ t. (k < self.now.held) × (T.value t ≡ (state T.field.ops T.value self.now).target k)) }
     {
-        if k < self.held {
-            Some(self.memory[(self.unknowns + 1) * self.unknowns + k])
-        } else {
-            None
-        }
+        self.targets().get(k).copied()
     }
 }
