@@ -1,5 +1,6 @@
 -- A panel: columns of one height, one after another; and what a working makes of each of them.
 use Rattle.std.specs.Prelude.{◌≡◌, ℕ, zero, suc, ◌+◌, ◌*◌, ◌/◌, ◌%◌, ◌<◌, Bool, true, cond, ◌&&◌, List, [], ◌∷◌, length, take, drop, Some, None, Option, ◌==◌, nat_le, nat_lt, slice_index}
+use Rattle.std.specs.Borrow.{MutBor}
 use Rattle.arithmetic.specs.Fields.{Field}
 use Rattle.arithmetic.specs.Runs.{row, total}
 use Rattle.columns.specs.Swaps.{joined, swapped, unswapped}
@@ -20,6 +21,14 @@ places (x ∷ xs) (suc i) = places xs i
 -- what happens to each column of a panel
 abbrev pub EachColumn : {X : Type 0} → ℕ → (List X → List X → Type 0) → List X → List X → Type 0
 EachColumn height Becomes before after = (j : ℕ) → j < length before / height → Becomes (column_of height before j) (column_of height after j)
+
+-- what a call says of what it finds and what it leaves behind a `&mut`
+pub record Leaves {A : Type 0} (post : MutBor A → Unit {0} → MutBor A → Type 0) (before after : A) : Type 0 where
+  pub lent : MutBor A
+  pub back : MutBor A
+  pub found : lent.now ≡ before
+  pub met : post lent tt back
+  pub left : back.now ≡ after
 
 abbrev pub offsets : List ℕ → ℕ → ℕ
 offsets pivots k = slice_index pivots k

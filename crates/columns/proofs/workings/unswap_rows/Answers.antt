@@ -2,7 +2,7 @@ use Rattle.std.proofs.Common.{◌≡◌, ◌+◌, ◌-◌, sym, ap, ◌∙◌, a
 use Rattle.columns.specs.Swaps.{unswapped}
 use Rattle.columns.specs.Panels.{places, offsets}
 use Rattle.columns.proofs.Panels.{places_exchanged, unswapped_less}
-use Rattle.columns.proofs.workings.UnswappingColumnWork.work.Goals as goal
+use Rattle.columns.proofs.workings.unswap_rows.Goals as goal
 
 pub swap-requires : goal.swap-requires
 swap-requires g c =
@@ -12,7 +12,7 @@ swap-requires g c =
 pub loop-k-preserved : goal.loop-k-preserved
 loop-k-preserved g c =
     let k = c.loop-k.k in
-    let o = offsets c.args.self.now.pivots.now in
+    let o = offsets c.args.pivots.now in
     let inside = c.requires (k - 1) (omega arith) in
     ap (unswapped o (k - 1)) (places_exchanged c.loop-k.column c.swap.new.self (k - 1) (k - 1 + o (k - 1)) (omega (arith, inside)) (omega (arith, inside)) c.swap.ensures.after)
     ∙ unswapped_less o k (places c.loop-k.column) c.loop-k-test.true
@@ -21,4 +21,4 @@ loop-k-preserved g c =
 pub returns : goal.returns
 returns g c =
     let none : c.loop-k.k ≡ 0 = omega arith in
-    ap (λ n. unswapped (offsets c.args.self.now.pivots.now) n (places c.loop-k.column)) (sym none) ∙ c.loop-k.invariant
+    ap (λ n. unswapped (offsets c.args.pivots.now) n (places c.loop-k.column)) (sym none) ∙ c.loop-k.invariant

@@ -3,15 +3,15 @@ use Rattle.arithmetic.specs.Runs.{row, total}
 use Rattle.columns.specs.Panels.{cells}
 use Rattle.columns.proofs.Panels.{cells_past}
 use Rattle.columns.proofs.Steps.{Reducing, reducing_none, reducing_next, reducing_all}
-use Rattle.columns.proofs.workings.ReducingColumnWork.work.Goals as goal
+use Rattle.columns.proofs.workings.reduce_rows.Goals as goal
 
 pub loop-i-init : goal.loop-i-init
-loop-i-init g c = reducing_none g.T.Arithmetic.field.ops g.met.T.Arithmetic.lawful g.T.Arithmetic.value _ c.args.self.now.c c.args.column.now
+loop-i-init g c = reducing_none g.T.Arithmetic.field.ops g.met.T.Arithmetic.lawful g.T.Arithmetic.value _ c.args.c c.args.column.now
 
-pub share-requires : goal.share-requires
-share-requires g c =
+pub share-requires-clause-full : goal.share-requires-clause-full
+share-requires-clause-full g c =
     let same : length c.loop-i.column ≡ length c.args.column.now = omega arith in
-    (omega arith, (omega arith, omega (arith, ap (λ n. c.args.self.now.c * n) same)))
+    omega (arith, ap (λ n. c.args.c * n) same)
 
 pub loop-i-preserved : goal.loop-i-preserved
 loop-i-preserved g c =
@@ -21,8 +21,8 @@ loop-i-preserved g c =
     let xs = c.loop-i.column in
     let same : length xs ≡ length c.args.column.now = omega arith in
     let less = c.difference.ensures ∙ ap (λ s. F.sum (value c.index-column-i.result) (F.negative s))
-    (c.share.ensures ∙ ap (λ h. total F c.args.self.now.c (λ k. F.product (cells F value h c.args.self.now.factors.now k i) (row F value xs k))) same) in
-    reducing_next F g.met.T.Arithmetic.lawful value _ c.args.self.now.c c.args.column.now xs i c.index-column-i.result c.difference.result (omega arith)
+    (c.share.ensures ∙ ap (λ h. total F c.args.c (λ k. F.product (cells F value h c.args.factors.now k i) (row F value xs k))) same) in
+    reducing_next F g.met.T.Arithmetic.lawful value _ c.args.c c.args.column.now xs i c.index-column-i.result c.difference.result (omega arith)
     (record { inside = omega arith; over = c.index-column-i.is; less = less }) c.loop-i.invariant
 
 pub returns : goal.returns
@@ -31,7 +31,7 @@ returns g c =
     let W = g.met.T.Arithmetic.lawful in
     let value = g.T.Arithmetic.value in
     let start = c.args.column.now in
-    let L = cells F value (length start) c.args.self.now.factors.now in
+    let L = cells F value (length start) c.args.factors.now in
     let all : c.loop-i.i ≡ length start = omega arith in
-    reducing_all F W value L c.args.self.now.c (length start) start c.loop-i.column (omega arith) (cells_past F value c.args.self.now.factors.now (length start))
-    (subst (Reducing F W value L c.args.self.now.c start c.loop-i.column) all c.loop-i.invariant)
+    reducing_all F W value L c.args.c (length start) start c.loop-i.column (omega arith) (cells_past F value c.args.factors.now (length start))
+    (subst (Reducing F W value L c.args.c start c.loop-i.column) all c.loop-i.invariant)
