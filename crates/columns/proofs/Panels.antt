@@ -28,7 +28,6 @@ ends j n h lt = let le : (j + 1) * h ≤ n * h = mul-le-mul_right h (omega arith
 pub room : (j h size : ℕ) → j < size / h → j * h + h ≤ size
 room j h size lt = omega (arith, ends j (size / h) h lt, div-mul-le_self size h)
 
-
 -- an element put at a place
 
 pub places_set : {X : Type 0} (xs : List X) (i : ℕ) (y : X) → i < length xs → places (set xs i y) ≡ put i (Some y) (places xs)

@@ -1,4 +1,4 @@
-use Rattle.arithmetic.specs.Laws.{codes_tell, not_all_zero}
+use Rattle.arithmetic.specs.Lemmas.Laws.{codes_tell, not_all_zero}
 use Rattle.arithmetic.proofs.elements.is_zero.Goals as goal
 
 pub returns : goal.returns

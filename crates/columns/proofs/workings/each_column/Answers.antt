@@ -1,4 +1,4 @@
-use Rattle.std.proofs.Common.{◌+◌, ◌*◌, ◌/◌, ◌≤◌, ◌≡◌, length, refl, ap, ◌∙◌, arith, rules}
+use Rattle.std.proofs.Common.{◌+◌, ◌*◌, length, refl, arith, rules}
 use Rattle.columns.specs.Panels.{Leaves}
 use Rattle.columns.proofs.Panels.{room, upto_none, upto_more, upto_all}
 use Rattle.columns.proofs.workings.each_column.Given as given
@@ -16,7 +16,7 @@ loop-j-preserved g c =
     let j = c.loop-j.j in
     let p = room j h (length c.args.panel.now) c.loop-j-test.true in
     upto_more h (Leaves (given.F-post g c.args.work)) c.args.panel.now c.loop-j.panel c.work.new.arg2 j (j * h + h) refl (omega arith) c.work.auto.arg2 c.loop-j.invariant
-        (record { lent = _; back = _; found = refl; met = c.work.ensures; left = refl })
+    (record { lent = _; back = _; found = refl; met = c.work.ensures; left = refl })
 
 pub returns : goal.returns
 returns g c = upto_all c.args.height (Leaves (given.F-post g c.args.work)) c.args.panel.now c.loop-j.panel _ c.loop-j.j refl (omega arith) c.loop-j.invariant

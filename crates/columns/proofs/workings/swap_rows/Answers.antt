@@ -1,4 +1,4 @@
-use Rattle.std.proofs.Common.{◌≡◌, ◌<◌, ◌+◌, length, ap, ◌∙◌, arith}
+use Rattle.std.proofs.Common.{◌≡◌, length, ap, ◌∙◌, arith}
 use Rattle.columns.specs.Swaps.{swapped}
 use Rattle.columns.specs.Panels.{places, offsets}
 use Rattle.columns.proofs.Panels.{swapped_more}

@@ -1,4 +1,4 @@
-use Rattle.arithmetic.specs.Parities.{even_product, odd_product}
+use Rattle.arithmetic.specs.Lemmas.Parities.{even_product, odd_product}
 use Rattle.arithmetic.proofs.parity.ParityArithmetic.product.Goals as goal
 
 pub returns-in-Even : goal.returns-in-Even

@@ -1,4 +1,4 @@
-use Rattle.arithmetic.specs.Parities.{even_sum}
+use Rattle.arithmetic.specs.Lemmas.Parities.{even_sum}
 use Rattle.arithmetic.proofs.parity.ParityArithmetic.sum.Goals as goal
 
 pub returns-in-Even : goal.returns-in-Even

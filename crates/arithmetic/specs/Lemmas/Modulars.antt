@@ -10,8 +10,8 @@ use Rattle.std.proofs.Math.IntN.{+ℤ_one}
 use Rattle.std.specs.Int.{int_rem_euclid}
 use Rattle.arithmetic.specs.Fields.{Lawful}
 use Rattle.arithmetic.specs.Modular.{Below, inverse_of, modular}
-use Rattle.arithmetic.specs.Remainders.{mod_mul_mod, mul_mod_mod, descent}
-use Rattle.arithmetic.specs.Primes.{Prime}
+use Rattle.arithmetic.specs.Lemmas.Remainders.{mod_mul_mod, mul_mod_mod, descent}
+use Rattle.arithmetic.specs.Lemmas.Primes.{Prime}
 
 -- values below p are equal where their numbers are
 pub below_path : {p : ℕ} {x y : Below p} → x.0 ≡ y.0 → x ≡ y

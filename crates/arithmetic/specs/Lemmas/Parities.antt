@@ -6,8 +6,8 @@ use Rattle.arithmetic.specs.Modular.{inverse_of}
 use Rattle.arithmetic.specs.Elements.{parities, parity}
 use Rattle.arithmetic.specs.declared.parity.Parity.{Parity}
 use Rattle.arithmetic.specs.declared.parity.Parity.TheVariants.{Even, Odd}
-use Rattle.arithmetic.specs.Primes.{prime_2}
-use Rattle.arithmetic.specs.Modulars.{below_path, modular_lawful}
+use Rattle.arithmetic.specs.Lemmas.Primes.{prime_2}
+use Rattle.arithmetic.specs.Lemmas.Modulars.{below_path, modular_lawful}
 
 pub parities_lawful : Lawful parities.ops
 parities_lawful = modular_lawful 2 prime_2 (lit< tt) (lit< tt)

@@ -5,10 +5,10 @@ use Rattle.std.proofs.Math.Nat.{mod-mod, add-mod}
 use Rattle.arithmetic.specs.Fields.{Lawful}
 use Rattle.arithmetic.specs.Elements.{residues, residue}
 use Rattle.arithmetic.specs.declared.residue.Residue.{Residue}
-use Rattle.arithmetic.specs.Laws.{inverse_unique}
-use Rattle.arithmetic.specs.Remainders.{mod_mul_mod, mul_mod_mod, descent}
-use Rattle.arithmetic.specs.Primes.{prime_65479}
-use Rattle.arithmetic.specs.Modulars.{below_path, modular_lawful}
+use Rattle.arithmetic.specs.Lemmas.Laws.{inverse_unique}
+use Rattle.arithmetic.specs.Lemmas.Remainders.{mod_mul_mod, mul_mod_mod, descent}
+use Rattle.arithmetic.specs.Lemmas.Primes.{prime_65479}
+use Rattle.arithmetic.specs.Lemmas.Modulars.{below_path, modular_lawful}
 
 abbrev P : ℕ
 P = 65479
