@@ -1,32 +1,13 @@
--- The choosers' loops, turn by turn: what is left to look through gives the answer of the whole.
-use Rattle.std.proofs.Common.{◌≡◌, ℕ, suc, ◌+◌, ◌<◌, ◌≤◌, Bool, ltb, ◌≢◌, if◌then◌else◌, List, length, get_or, set, take, drop, Some, None, Option, MatchOption, sym, ap, ◌∙◌, add-one, arith, drop-cons, ap₂, below_more, get_or-set_other, get_or-set_same, ext_get_or}
-use Rattle.std.proofs.lemmas.List.{drop_all, length-take-le, get_or-take}
-use Rattle.std.proofs.lemmas.Bool.{lt-ltb, le-ltb, cond-true, cond-false}
+-- The choosers' loops.
+use Rattle.std.proofs.Common.{◌≡◌, ℕ, ◌+◌, ◌<◌, ◌≤◌, Bool, ◌≢◌, if◌then◌else◌, List, length, get_or, set, take, drop, Some, None, Option, MatchOption, sym, ap, ◌∙◌, arith, ap₂, below_more, get_or-set_other, get_or-set_same, ext_get_or}
+use Rattle.std.proofs.lemmas.List.{length-take-le, get_or-take}
 use Rattle.std.specs.Option.{option_or}
-use Rattle.columns.specs.Picks.{Pick, Fit, greatest_from, marked, masked, greatest, keep_free}
+use Rattle.columns.specs.Picks.{Pick, Fit, greatest_from, marked, masked, keep_free}
 use Rattle.columns.specs.Lemmas.Picks.{guard_on, length_masked, masked_at}
 
-module _ (cs : List ℕ) (i : ℕ) where
-  abbrev pub Greater : Option ℕ → ℕ → Type 0
-  Greater best top = greatest_from best top i (drop i cs) ≡ greatest_from None 0 0 cs
-
-  -- a turn: a code above top is the best so far
-  pub greater_taken : (best : Option ℕ) (top : ℕ) → i < length cs → top < get_or cs i 0
-      → greatest_from (Some i) (get_or cs i 0) (i + 1) (drop (i + 1) cs) ≡ greatest_from best top i (drop i cs)
-  greater_taken best top h above =
-      ap (λ k. greatest_from (Some i) (get_or cs i 0) k (drop k cs)) (add-one i)
-      ∙ sym (ap (greatest_from best top i) (drop-cons cs i 0 h)
-      ∙ cond-true (ltb top (get_or cs i 0)) (greatest_from (Some i) (get_or cs i 0) (suc i) (drop (suc i) cs)) (greatest_from best top (suc i) (drop (suc i) cs)) (lt-ltb _ _ above))
-
-  pub greater_passed : (best : Option ℕ) (top : ℕ) → i < length cs → get_or cs i 0 ≤ top
-      → greatest_from best top (i + 1) (drop (i + 1) cs) ≡ greatest_from best top i (drop i cs)
-  greater_passed best top h under =
-      ap (λ k. greatest_from best top k (drop k cs)) (add-one i)
-      ∙ sym (ap (greatest_from best top i) (drop-cons cs i 0 h)
-      ∙ cond-false (ltb top (get_or cs i 0)) (greatest_from (Some i) (get_or cs i 0) (suc i) (drop (suc i) cs)) (greatest_from best top (suc i) (drop (suc i) cs)) (le-ltb _ _ under))
-
-  pub greater_end : (us : List ℕ) (best : Option ℕ) (top : ℕ) → Fit cs us → length cs ≤ i → Greater best top → best ≡ greatest cs us
-  greater_end us best top fit h inv = sym (guard_on (λ xs ys. greatest_from None 0 0 xs) cs us fit ∙ sym inv ∙ ap (greatest_from best top i) (drop_all i cs h))
+-- what is left of the codes from place i on gives the answer of all of them
+abbrev pub Greater : List ℕ → ℕ → Option ℕ → ℕ → Type 0
+Greater cs i best top = greatest_from best top i (drop i cs) ≡ greatest_from None 0 0 cs
 
 module _ (p : Pick) (m : List Bool) (cs us : List ℕ) (fit : Fit cs us) where
   -- the part of the table that was filled

@@ -21,14 +21,6 @@ unfolding inverse_of
 inverse_is Even = below_path refl
 inverse_is Odd = below_path refl
 
-pub even_sum : (x : Parity) → parity x ≡ parities.ops.sum (parity Even) (parity x)
-even_sum Even = below_path refl
-even_sum Odd = below_path refl
-
-pub odd_product : (x : Parity) → parity x ≡ parities.ops.product (parity Odd) (parity x)
-odd_product Even = below_path refl
-odd_product Odd = below_path refl
-
 pub even_product : (x : Parity) → parity Even ≡ parities.ops.product (parity Even) (parity x)
 even_product Even = below_path refl
 even_product Odd = below_path refl

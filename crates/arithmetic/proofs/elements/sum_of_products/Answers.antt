@@ -1,6 +1,5 @@
-use Rattle.std.proofs.Common.{sym, ap, ◌∙◌, ap₂, add-one, rules, length-append}
-use Rattle.std.proofs.lemmas.Slice.Zip.{zip_turn, zip_end}
-use Rattle.arithmetic.specs.Runs.{row, dot}
+use Rattle.std.proofs.Common.{sym, ◌∙◌, ap₂, add-one, rules, length-append}
+use Rattle.std.proofs.lemmas.Slice.Zip.{zip_turn}
 use Rattle.arithmetic.proofs.Rows.{row_inside}
 use Rattle.arithmetic.proofs.elements.sum_of_products.Goals as goal
 
@@ -16,10 +15,3 @@ loop-x-preserved g c =
     rw (length-append, add-one)
     (c.sum-sum.ensures
     ∙ ap₂ F.sum c.loop-x.invariant (c.product.ensures ∙ ap₂ F.product (sym (row_inside F value a _ x at.0 (at.2 x))) (sym (row_inside F value b _ y at.1 (at.3 y)))))
-
-pub returns : goal.returns
-returns g c =
-    let F = g.T.Arithmetic.field.ops in
-    let value = g.T.Arithmetic.value in
-    let all = zip_end c.args.a.now c.args.b.now c.loop-x.yielded c.into_iter-x-iterator.result c.loop-x.x-iterator c.next.new.self c.next.result (search rules) (search rules) c.loop-x.yielded_by c.in-None.is c.next.ensures.steps in
-    c.loop-x.invariant ∙ ap (λ n. dot F n (row F value c.args.a.now) (row F value c.args.b.now)) all

@@ -1,11 +1,8 @@
 use Rattle.std.proofs.Common.{◌+◌, ◌*◌, length, refl, arith, rules}
 use Rattle.columns.specs.Panels.{Leaves}
-use Rattle.columns.proofs.Panels.{room, upto_none, upto_more, upto_all}
+use Rattle.columns.proofs.Panels.{room, upto_more}
 use Rattle.columns.proofs.workings.each_column.Given as given
 use Rattle.columns.proofs.workings.each_column.Goals as goal
-
-pub loop-j-init : goal.loop-j-init
-loop-j-init g c = upto_none c.args.height (Leaves (given.F-post g c.args.work)) c.args.panel.now
 
 pub offset_bounds-panel-start : goal.offset_bounds-panel-start
 offset_bounds-panel-start g c = let p = room c.loop-j.j c.args.height (length c.args.panel.now) c.loop-j-test.true in search rules
@@ -17,6 +14,3 @@ loop-j-preserved g c =
     let p = room j h (length c.args.panel.now) c.loop-j-test.true in
     upto_more h (Leaves (given.F-post g c.args.work)) c.args.panel.now c.loop-j.panel c.work.new.arg2 j (j * h + h) refl (omega arith) c.work.auto.arg2 c.loop-j.invariant
     (record { lent = _; back = _; found = refl; met = c.work.ensures; left = refl })
-
-pub returns : goal.returns
-returns g c = upto_all c.args.height (Leaves (given.F-post g c.args.work)) c.args.panel.now c.loop-j.panel _ c.loop-j.j refl (omega arith) c.loop-j.invariant

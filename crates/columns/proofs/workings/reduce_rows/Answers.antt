@@ -1,4 +1,4 @@
-use Rattle.std.proofs.Common.{◌≡◌, ◌*◌, length, ap, ◌∙◌, subst, arith}
+use Rattle.std.proofs.Common.{◌≡◌, length, ap, ◌∙◌, subst, arith}
 use Rattle.arithmetic.specs.Runs.{row, total}
 use Rattle.columns.specs.Panels.{cells}
 use Rattle.columns.proofs.Panels.{cells_past}
@@ -7,11 +7,6 @@ use Rattle.columns.proofs.workings.reduce_rows.Goals as goal
 
 pub loop-i-init : goal.loop-i-init
 loop-i-init g c = reducing_none g.T.Arithmetic.field.ops g.met.T.Arithmetic.lawful g.T.Arithmetic.value _ c.args.c c.args.column.now
-
-pub share-requires-clause-full : goal.share-requires-clause-full
-share-requires-clause-full g c =
-    let same : length c.loop-i.column ≡ length c.args.column.now = omega arith in
-    omega (arith, ap (λ n. c.args.c * n) same)
 
 pub loop-i-preserved : goal.loop-i-preserved
 loop-i-preserved g c =

@@ -1,18 +1,11 @@
-use Rattle.std.proofs.Common.{◌≡◌, ◌*◌, ◌≤◌, length, ap, ◌∙◌, subst, mul-le-mul_right, arith}
+use Rattle.std.proofs.Common.{◌≡◌, length, ap, ◌∙◌, arith}
 use Rattle.arithmetic.specs.Runs.{row, total}
-use Rattle.columns.specs.Panels.{Solves, cells}
+use Rattle.columns.specs.Panels.{cells}
 use Rattle.columns.proofs.Steps.{solves_none, solves_next}
 use Rattle.columns.proofs.workings.solve_rows.Goals as goal
 
 pub loop-i-init : goal.loop-i-init
 loop-i-init g c = solves_none g.T.Arithmetic.field.ops g.met.T.Arithmetic.lawful g.T.Arithmetic.value _ c.args.column.now
-
-pub share-requires-clause-full : goal.share-requires-clause-full
-share-requires-clause-full g c =
-    let h = length c.loop-i.column in
-    let same : h ≡ length c.args.column.now = omega arith in
-    let less : c.loop-i.i * h ≤ c.args.c * h = mul-le-mul_right h (omega arith) in
-    omega (arith, ap (λ n. c.args.c * n) same)
 
 pub loop-i-preserved : goal.loop-i-preserved
 loop-i-preserved g c =
@@ -25,10 +18,3 @@ loop-i-preserved g c =
     (c.share.ensures ∙ ap (λ h. total F i (λ k. F.product (cells F value h c.args.factors.now k i) (row F value xs k))) same) in
     solves_next F g.met.T.Arithmetic.lawful value _ c.args.column.now xs i c.index-column-i.result c.difference.result
     (record { inside = omega arith; over = c.index-column-i.is; less = less }) c.loop-i.invariant
-
-pub returns : goal.returns
-returns g c =
-    let F = g.T.Arithmetic.field.ops in
-    let value = g.T.Arithmetic.value in
-    let all : c.loop-i.i ≡ c.args.c = omega arith in
-    subst (λ n. Solves F value (cells F value (length c.args.column.now) c.args.factors.now) n c.args.column.now c.loop-i.column) all c.loop-i.invariant

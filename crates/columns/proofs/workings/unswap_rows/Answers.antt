@@ -1,13 +1,8 @@
-use Rattle.std.proofs.Common.{◌≡◌, ◌+◌, ◌-◌, sym, ap, ◌∙◌, arith}
+use Rattle.std.proofs.Common.{◌+◌, ◌-◌, ap, ◌∙◌, arith}
 use Rattle.columns.specs.Swaps.{unswapped}
 use Rattle.columns.specs.Panels.{places, offsets}
 use Rattle.columns.proofs.Panels.{places_exchanged, unswapped_less}
 use Rattle.columns.proofs.workings.unswap_rows.Goals as goal
-
-pub swap-requires : goal.swap-requires
-swap-requires g c =
-    let inside = c.requires (c.loop-k.k - 1) (omega arith) in
-    record { a_in_bounds = omega (arith, inside); b_in_bounds = omega (arith, inside) }
 
 pub loop-k-preserved : goal.loop-k-preserved
 loop-k-preserved g c =
@@ -17,8 +12,3 @@ loop-k-preserved g c =
     ap (unswapped o (k - 1)) (places_exchanged c.loop-k.column c.swap.new.self (k - 1) (k - 1 + o (k - 1)) (omega (arith, inside)) (omega (arith, inside)) c.swap.ensures.after)
     ∙ unswapped_less o k (places c.loop-k.column) c.loop-k-test.true
     ∙ c.loop-k.invariant
-
-pub returns : goal.returns
-returns g c =
-    let none : c.loop-k.k ≡ 0 = omega arith in
-    ap (λ n. unswapped (offsets c.args.pivots.now) n (places c.loop-k.column)) (sym none) ∙ c.loop-k.invariant
