@@ -9,7 +9,7 @@ use crate::choosers::{Chooser, MOST, fits};
 #[derive(Drop)]
 pub struct KeepFree<C: Chooser> {
     below: C,
-    marks: [bool; 96],
+    marks: [bool; MOST],
 }
 
 impl<C: Chooser> KeepFree<C> {
@@ -20,7 +20,7 @@ impl<C: Chooser> KeepFree<C> {
     {
         KeepFree {
             below,
-            marks: [false; 96],
+            marks: [false; MOST],
         }
     }
 
@@ -36,7 +36,7 @@ impl<C: Chooser> KeepFree<C> {
 }
 
 // The code that is shown of an unknown: 0 where it is marked.
-fn shown_code(marks: &[bool; 96], unknown: usize, code: u32) -> u32
+fn shown_code(marks: &[bool; MOST], unknown: usize, code: u32) -> u32
     ensures { result ≡ (if marked marks.now unknown then 0 else code) }
 {
     match marks.get(unknown) {

@@ -2,7 +2,7 @@
 ghost use Rattle.std.specs.Prelude.{◌≡◌, ◌*◌, ◌<◌, ◌≤◌, length, OnOk, MatchResult};
 ghost use Rattle.std.specs.Result.{result_err};
 ghost use Rattle.arithmetic.specs.Runs.{row, total};
-ghost use Rattle.columns.specs.Panels.{EachColumn, Leaves, Swaps, Unswaps, Solves, Reduces, cells, PivotsInside, whole, inside_from, swap_refusal, factor_refusal};
+ghost use Rattle.columns.specs.Panels.{EachColumn, Leaves, Swaps, Unswaps, Solves, Reduces, cells, PivotsInside, inside_from, swap_refusal, factor_refusal};
 
 use crate::refusal::Refusal;
 use arithmetic::{Arithmetic, difference};
@@ -159,9 +159,9 @@ fn share<T: Arithmetic>(factors: &[T], column: &[T], i: usize, n: usize) -> T
     ensures { T.value result ≡ total T.field.ops n (λ k. T.field.ops.product (cells T.field.ops T.value (length column.now) factors.now k i) (row T.field.ops T.value column.now k)) }
 {
     let mut sum = T::zero();
-    for k in 0..n {
+    for (k, x) in column[..n].iter().enumerate() {
         let at = k * column.len() + i;
-        sum = sum.sum(factors[at].product(column[k]));
+        sum = sum.sum(factors[at].product(*x));
     }
     sum
 }
