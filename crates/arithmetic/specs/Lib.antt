@@ -2,9 +2,4 @@ pub mod Fields
 pub mod Modular
 pub mod Elements
 pub mod Runs
-pub mod Parities
-pub mod Primes
-pub mod Modulars
-pub mod Remainders
-pub mod Residues
-pub mod Laws
+pub mod Lemmas

@@ -31,10 +31,9 @@ pub fn difference<T: Arithmetic>(a: T, b: T) -> T
 pub fn sum_of_products<T: Arithmetic>(a: &[T], b: &[T]) -> T
     ensures { T.value result ≡ dot T.field.ops (min (length a.now) (length b.now)) (row T.field.ops T.value a.now) (row T.field.ops T.value b.now) }
 {
-    let both = a.len().min(b.len());
     let mut sum = T::zero();
-    for i in 0..both {
-        sum = sum.sum(a[i].product(b[i]));
+    for (x, y) in a.iter().zip(b) {
+        sum = sum.sum(x.product(*y));
     }
     sum
 }

@@ -1,14 +1,14 @@
 // Even and odd: whole numbers modulo 2.
 ghost use Rattle.std.specs.Prelude.{◌≡◌};
 ghost use Rattle.arithmetic.specs.Elements.{parities, parity};
-ghost use Rattle.arithmetic.specs.Parities.{parities_lawful};
+ghost use Rattle.arithmetic.specs.Lemmas.Parities.{parities_lawful};
 
 use crate::field::Arithmetic;
 
-#[derive(Clone, Copy)]
+#[derive(Clone, Copy, PartialEq, Eq, Debug)]
 pub enum Parity {
-    Even,
-    Odd,
+    Even = 0,
+    Odd = 1,
 }
 
 impl Parity {
@@ -61,10 +61,7 @@ impl Arithmetic for Parity {
     }
 
     fn code(self) -> u32 {
-        match self {
-            Parity::Even => 0,
-            Parity::Odd => 1,
-        }
+        self as u32
     }
 
     fn bring(n: i32) -> Parity {

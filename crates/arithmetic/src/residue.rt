@@ -1,13 +1,13 @@
 // Residues modulo the prime 65479.
 ghost use Rattle.arithmetic.specs.Elements.{residues, residue};
-ghost use Rattle.arithmetic.specs.Residues.{residues_lawful};
+ghost use Rattle.arithmetic.specs.Lemmas.Residues.{residues_lawful};
 
 use crate::field::Arithmetic;
 
 const PRIME: u16 = 65479;
 
 // Any 16-bit number is an element; its code is its remainder modulo the prime.
-#[derive(Clone, Copy)]
+#[derive(Clone, Copy, Debug)]
 pub struct Residue(pub u16);
 
 impl Arithmetic for Residue {

@@ -1,9 +1,10 @@
 -- The first place where a column is not zero.
 use Rattle.std.proofs.Common.{◌≡◌, ℕ, zero, suc, ◌<◌, ◌⊎◌, Some, None, Option, ap, inl, inr, arith, MatchOption}
+use Rattle.std.specs.Option.{option_or}
 use native.Mathlib.Decide.{ℕ_discrete}
 use Rattle.arithmetic.specs.Fields.{Field, Lawful}
 use Rattle.columns.specs.Swaps.{choose}
-use Rattle.columns.specs.Factors.{first_some, lead}
+use Rattle.columns.specs.Factors.{lead}
 use Rattle.columns.proofs.Places.{below_next}
 
 module _ {K : Type 0} (F : Field K) where
@@ -23,7 +24,7 @@ module _ {K : Type 0} (F : Field K) (W : Lawful F) where
   lead_finds (suc n) f = go (lead F n f) (lead_finds n f) (ℕ_discrete (code (f n)) (code 𝟘))
     where
       go : (o : Option ℕ) → MatchOption o (Zeros F n f) (First F n f) → (d : Dec (code (f n) ≡ code 𝟘))
-          → MatchOption (first_some o (choose d None (Some n))) (Zeros F (suc n) f) (First F (suc n) f)
+          → MatchOption (option_or o (choose d None (Some n))) (Zeros F (suc n) f) (First F (suc n) f)
       go None h (yes z) = below_next (λ i. f i ≡ 𝟘) n h (W.code_same (f n) 𝟘 z)
       go None h (no z) = (omega arith, λ e. z (ap code e), h)
       go (Some i) (l, h, before) d = (omega arith, h, before)

@@ -1,3 +1,4 @@
+pub mod Zips
 pub mod Searches
 pub mod Rings
 pub mod Places

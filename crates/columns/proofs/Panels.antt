@@ -1,15 +1,16 @@
 -- Columns of a panel, by place.
-use Rattle.std.proofs.Common.{◌≡◌, ℕ, zero, suc, ◌+◌, ◌-◌, ◌*◌, ◌/◌, ◌<◌, ◌≤◌, List, [], ◌∷◌, length, get_or, take, drop, set, Some, sym, refl, ap, ◌∙◌, subst, ap₂, subst₂, mul-le-mul_right, add-mul, arith, below_more}
+use Rattle.std.proofs.Common.{◌≡◌, ℕ, zero, suc, ◌+◌, ◌-◌, ◌*◌, ◌/◌, ◌<◌, ◌≤◌, List, [], ◌∷◌, length, get_or, take, drop, set, Some, sym, refl, ap, ◌∙◌, subst, ap₂, subst₂, mul-le-mul_right, add-mul, add-one, arith, below_more}
 use native.Mathlib.Decide.{ℕ_discrete}
 use borrow.Rule.Slice.PartMut.{put_mid, same_len_mid}
 use Rattle.std.specs.List.{swap}
+use Rattle.std.proofs.Math.Nat.{div-mul-le_self}
 use Rattle.std.proofs.lemmas.List.{get_or-take, get_or-drop, length-take, length-take-le, length-drop, length-set}
 use Rattle.std.proofs.lemmas.Slice.{take-put_mid_below, drop-put_mid, between-put_mid, between_is}
 use Rattle.arithmetic.specs.Fields.{Field}
 use Rattle.arithmetic.specs.Runs.{row}
 use Rattle.arithmetic.proofs.Rows.{row_inside}
-use Rattle.columns.specs.Swaps.{put, exchange, unswapped}
-use Rattle.columns.specs.Panels.{column_of, places, cells, EachColumn}
+use Rattle.columns.specs.Swaps.{put, exchange, swapped, unswapped}
+use Rattle.columns.specs.Panels.{column_of, places, offsets, cells, EachColumn}
 use Rattle.columns.proofs.Places.{put_is, put_comm}
 use Rattle.columns.proofs.Swaps.{put_both}
 
@@ -23,17 +24,9 @@ within j i n h size hj hi le =
 pub ends : (j n h : ℕ) → j < n → j * h + h ≤ n * h
 ends j n h lt = let le : (j + 1) * h ≤ n * h = mul-le-mul_right h (omega arith) in omega (arith, add-mul j 1 h)
 
--- column j of n whole columns ends within them
-pub room : (j n h size : ℕ) → j < n → n * h ≡ size → j * h + h ≤ size
-room j n h size lt e = omega (arith, ends j n h lt)
-
--- and is as long as the height
-pub part_long : {X : Type 0} (h j : ℕ) (xs : List X) → j * h + h ≤ length xs → length (take (j * h + h - j * h) (drop (j * h) xs)) ≡ h
-part_long h j xs p = length-take-le (j * h + h - j * h) (drop (j * h) xs) (omega (arith, length-drop (j * h) xs)) ∙ omega arith
-
--- a column of a panel of n whole columns
-pub column_length : {X : Type 0} (h j n : ℕ) (xs : List X) → j < n → n * h ≡ length xs → length (column_of h xs j) ≡ h
-column_length h j n xs lt e = length-take-le h (drop (j * h) xs) (omega (arith, length-drop (j * h) xs, room j n h (length xs) lt e))
+-- column j ends within the panel
+pub room : (j h size : ℕ) → j < size / h → j * h + h ≤ size
+room j h size lt = omega (arith, ends j (size / h) h lt, div-mul-le_self size h)
 
 -- an element put at a place
 
@@ -76,6 +69,15 @@ places_exchanged (d ∷ ds) ys a b ha hb e =
     ∙ ap₂ (λ u v. put b u (put a v (places xs))) (sym (places_at xs a d ha)) (sym (places_at xs b d hb))
     ∙ put_both b a (places xs)
     ∙ exchange_comm b a (places xs)
+
+-- one exchange more
+pub swapped_more : {X : Type 0} (pivots : List ℕ) (xs ys zs : List X) (k : ℕ) → places ys ≡ swapped (offsets pivots) k (places xs) → k < length ys → k + offsets pivots k < length ys
+    → zs ≡ swap ys k (k + offsets pivots k) → places zs ≡ swapped (offsets pivots) (k + 1) (places xs)
+swapped_more pivots xs ys zs k before inside far e =
+    let o = offsets pivots in
+    places_exchanged ys zs k (k + o k) inside far e
+    ∙ ap (λ p i. p (exchange k (k + o k) i)) before
+    ∙ ap (λ n. swapped o n (places xs)) (sym (add-one k))
 
 -- one exchange less to be undone
 pub unswapped_less : {X : Type 0} (o : ℕ → ℕ) (k : ℕ) (x : ℕ → X) → 0 < k → unswapped o (k - 1) (λ i. x (exchange (k - 1) (k - 1 + o (k - 1)) i)) ≡ unswapped o k x

@@ -1,5 +1,6 @@
 -- Packed factors P, L and U of columns taken one after another, and what is read off them.
 use Rattle.std.specs.Prelude.{◌≡◌, ℕ, zero, suc, ◌+◌, ◌<◌, ◌≤◌, min, Some, None, Option}
+use Rattle.std.specs.Option.{option_or}
 use Rattle.std.proofs.Math.Decide.{ℕ_discrete, dec_lt, dec_le}
 use Rattle.arithmetic.specs.Fields.{Field}
 use Rattle.arithmetic.specs.Runs.{dot}
@@ -22,11 +23,6 @@ permuted s b = swapped s.offset s.rank b
 -- b swapped back
 abbrev pub restored : {K X : Type 0} → Packed K → (ℕ → X) → ℕ → X
 restored s b = unswapped s.offset s.rank b
-
--- the first of two places that is there
-abbrev pub first_some : Option ℕ → Option ℕ → Option ℕ
-first_some None p = p
-first_some (Some i) p = Some i
 
 -- what is stored agrees: the columns below the rank, down to the height
 pub record Alike {K : Type 0} (s u : Packed K) : Type 0 where
@@ -121,7 +117,7 @@ module _ {K : Type 0} (F : Field K) where
   -- the first place below n where f is not zero
   abbrev pub lead : ℕ → (ℕ → K) → Option ℕ
   lead zero f = None
-  lead (suc n) f = first_some (lead n f) (choose (ℕ_discrete (code (f n)) (code 𝟘)) None (Some n))
+  lead (suc n) f = option_or (lead n f) (choose (ℕ_discrete (code (f n)) (code 𝟘)) None (Some n))
 
   -- z with rows k - 1, .., 0 set in turn, so that z times column j of L is g j
   unfoldable pub settled : (ℕ → ℕ → K) → ℕ → (ℕ → K) → ℕ → (ℕ → K) → ℕ → K

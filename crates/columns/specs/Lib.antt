@@ -6,4 +6,4 @@ pub mod Factors
 pub mod Determinants
 pub mod Panels
 pub mod Theory
-pub mod PicksLemmas
+pub mod Lemmas

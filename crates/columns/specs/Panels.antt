@@ -1,5 +1,6 @@
 -- A panel: columns of one height, one after another; and what a working makes of each of them.
-use Rattle.std.specs.Prelude.{◌≡◌, ℕ, zero, suc, ◌+◌, ◌*◌, ◌/◌, ◌%◌, ◌<◌, Bool, true, cond, ◌&&◌, List, [], ◌∷◌, length, take, drop, Some, None, Option, ◌==◌, nat_le, nat_lt, slice_index}
+use Rattle.std.specs.Prelude.{◌≡◌, ℕ, zero, suc, ◌+◌, ◌*◌, ◌/◌, ◌%◌, ◌<◌, Bool, true, if◌then◌else◌, ◌&&◌, List, [], ◌∷◌, length, take, drop, Some, None, Option, ◌==◌, nat_le, nat_lt, slice_index}
+use Rattle.std.specs.Borrow.{MutBor}
 use Rattle.arithmetic.specs.Fields.{Field}
 use Rattle.arithmetic.specs.Runs.{row, total}
 use Rattle.columns.specs.Swaps.{joined, swapped, unswapped}
@@ -20,6 +21,14 @@ places (x ∷ xs) (suc i) = places xs i
 -- what happens to each column of a panel
 abbrev pub EachColumn : {X : Type 0} → ℕ → (List X → List X → Type 0) → List X → List X → Type 0
 EachColumn height Becomes before after = (j : ℕ) → j < length before / height → Becomes (column_of height before j) (column_of height after j)
+
+-- what a call says of what it finds and what it leaves behind a `&mut`
+pub record Leaves {A : Type 0} (post : MutBor A → Unit {0} → MutBor A → Type 0) (before after : A) : Type 0 where
+  pub lent : MutBor A
+  pub back : MutBor A
+  pub found : lent.now ≡ before
+  pub met : post lent tt back
+  pub left : back.now ≡ after
 
 abbrev pub offsets : List ℕ → ℕ → ℕ
 offsets pivots k = slice_index pivots k
@@ -74,8 +83,8 @@ inside_from height k [] = true
 inside_from height k (o ∷ os) = nat_lt (k + o) height && inside_from height (suc k) os
 
 abbrev pub swap_refusal : ℕ → ℕ → List ℕ → Option Refusal
-swap_refusal size height pivots = cond (whole size height) (cond (inside_from height 0 pivots) None (Some Place)) (Some Length)
+swap_refusal size height pivots = if whole size height then (if inside_from height 0 pivots then None else Some Place) else Some Length
 
 -- L has c columns of the panel's height, and c is not above it
 abbrev pub factor_refusal : ℕ → ℕ → ℕ → ℕ → Option Refusal
-factor_refusal factors height c size = cond (nat_le c height && factors == c * height && whole size height) None (Some Length)
+factor_refusal factors height c size = if nat_le c height && factors == c * height && whole size height then None else Some Length

@@ -1,5 +1,6 @@
 -- What a pivot chooser answers, as a function of the codes and of the unknown numbers beside them.
-use Rattle.std.specs.Prelude.{◌≡◌, ℕ, suc, ◌<◌, ◌≤◌, Bool, true, false, cond, ◌&&◌, List, [], ◌∷◌, length, Some, None, Option, MatchOption, ◌==◌, nat_le, nat_lt, slice_index, slice_index_or}
+use Rattle.std.specs.Prelude.{◌≡◌, ℕ, suc, ◌<◌, ◌≤◌, Bool, true, false, not, if◌then◌else◌, ◌&&◌, List, [], ◌∷◌, length, position, Some, None, Option, MatchOption, ◌==◌, nat_le, nat_lt, slice_index, slice_index_or}
+use Rattle.std.specs.Option.{option_or}
 
 abbrev pub Pick : Type 0
 Pick = List ℕ → List ℕ → Option ℕ
@@ -15,6 +16,10 @@ NonzeroAt codes i = (i < length codes) × ¬ (slice_index codes i ≡ 0)
 abbrev pub Fit : List ℕ → List ℕ → Type 0
 Fit codes unknowns = (length codes ≡ length unknowns) × (length codes ≤ 96)
 
+-- whether they are
+abbrev pub fits : List ℕ → List ℕ → Bool
+fits codes unknowns = length codes == length unknowns && nat_le (length codes) 96
+
 -- the law of every chooser: of lists of one length, at most 96, it picks a code that is not 0, and none exactly if there is none
 pub record LawfulPick (pick : Pick) : Type 0 where
   pub answers : (codes unknowns : List ℕ) → Fit codes unknowns → MatchOption (pick codes unknowns) (AllZero codes) (NonzeroAt codes)
@@ -23,20 +28,16 @@ pub record LawfulPick (pick : Pick) : Type 0 where
 
 -- a rule, where the lists have one length, at most 96
 abbrev pub guarded : Pick → Pick
-guarded rule codes unknowns = cond (length codes == length unknowns && nat_le (length codes) 96) (rule codes unknowns) None
-
--- the place of the first code that is not 0, where the list's first place is k
-abbrev pub first_from : ℕ → List ℕ → Option ℕ
-first_from k [] = None
-first_from k (c ∷ cs) = cond (c == 0) (first_from (suc k) cs) (Some k)
+guarded rule codes unknowns = if fits codes unknowns then rule codes unknowns else None
 
 -- the place of the first of the greatest codes above top, and best where none is above it
 abbrev pub greatest_from : Option ℕ → ℕ → ℕ → List ℕ → Option ℕ
 greatest_from best top k [] = best
-greatest_from best top k (c ∷ cs) = cond (nat_lt top c) (greatest_from (Some k) c (suc k) cs) (greatest_from best top (suc k) cs)
+greatest_from best top k (c ∷ cs) = if nat_lt top c then greatest_from (Some k) c (suc k) cs else greatest_from best top (suc k) cs
 
+-- the place of the first code that is not 0
 abbrev pub topmost : Pick
-topmost = guarded (λ codes unknowns. first_from 0 codes)
+topmost = guarded (λ codes unknowns. position (λ c. not (c == 0)) codes)
 
 abbrev pub greatest : Pick
 greatest = guarded (λ codes unknowns. greatest_from None 0 0 codes)
@@ -49,15 +50,11 @@ marked marks unknown = slice_index_or marks unknown false
 abbrev pub masked : List Bool → List ℕ → List ℕ → List ℕ
 masked marks [] us = []
 masked marks (c ∷ cs) [] = c ∷ masked marks cs []
-masked marks (c ∷ cs) (u ∷ us) = cond (marked marks u) 0 c ∷ masked marks cs us
-
-abbrev pub or_else : Option ℕ → Option ℕ → Option ℕ
-or_else None p = p
-or_else (Some i) p = Some i
+masked marks (c ∷ cs) (u ∷ us) = (if marked marks u then 0 else c) ∷ masked marks cs us
 
 -- the chooser below picks from the masked codes, and where it picks none, from the codes as received
 abbrev pub keep_free : Pick → List Bool → Pick
-keep_free below marks = guarded (λ codes unknowns. or_else (below (masked marks codes unknowns) unknowns) (below codes unknowns))
+keep_free below marks = guarded (λ codes unknowns. option_or (below (masked marks codes unknowns) unknowns) (below codes unknowns))
 
 -- In words: of lists that fit, the answer is none where all codes are 0, and else a place of which this is true.
 abbrev pub InWords : List ℕ → List ℕ → (ℕ → Type 0) → Option ℕ → Type 0

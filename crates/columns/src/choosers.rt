@@ -1,7 +1,7 @@
 // Pivot choosers: what one is, and two that look at the codes alone.
 ghost use Rattle.std.specs.Prelude.{◌≡◌, List};
-ghost use Rattle.columns.specs.Picks.{Pick, LawfulPick, InWords, IsFirst, IsGreatest, topmost, greatest};
-ghost use Rattle.columns.specs.PicksLemmas.{topmost_lawful, greatest_lawful};
+ghost use Rattle.columns.specs.Picks.{Pick, LawfulPick, fits, InWords, IsFirst, IsGreatest, topmost, greatest};
+ghost use Rattle.columns.specs.Lemmas.Picks.{topmost_lawful, greatest_lawful};
 
 // The longest list that a chooser picks from.
 pub const MOST: usize = 96;
@@ -14,6 +14,13 @@ pub trait Chooser {
         ensures { result ≡ pick self.now codes.now unknowns.now };
 
     ghost lawful: { (s : Self) → LawfulPick (pick s) };
+}
+
+// Whether a chooser picks from these lists: they have one length, at most 96.
+pub(crate) fn fits(codes: &[u32], unknowns: &[usize]) -> bool
+    ensures { result ≡ fits codes.now unknowns.now }
+{
+    codes.len() == unknowns.len() && codes.len() <= MOST
 }
 
 // The first code that is not 0.
@@ -29,15 +36,10 @@ impl Chooser for Topmost {
         ensures picked { result ≡ topmost codes.now unknowns.now }
         ensures in_words { InWords codes.now unknowns.now (IsFirst codes.now) result }
     {
-        if codes.len() != unknowns.len() || codes.len() > MOST {
+        if !fits(codes, unknowns) {
             return None;
         }
-        for (i, code) in codes.iter().enumerate() {
-            if *code != 0 {
-                return Some(i);
-            }
-        }
-        None
+        codes.iter().position(|code| *code != 0)
     }
 }
 
@@ -54,7 +56,7 @@ impl Chooser for Greatest {
         ensures picked { result ≡ greatest codes.now unknowns.now }
         ensures in_words { InWords codes.now unknowns.now (IsGreatest codes.now) result }
     {
-        if codes.len() != unknowns.len() || codes.len() > MOST {
+        if !fits(codes, unknowns) {
             return None;
         }
         let mut best = None;

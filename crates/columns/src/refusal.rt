@@ -2,55 +2,41 @@
 ghost use Rattle.std.specs.Prelude.{◌≡◌};
 ghost use Rattle.columns.specs.Refusals.{refusal_number};
 
-// The cases of all parts, in the order of their numbers.
-#[derive(Clone, Copy, PartialEq, Eq, Debug)]
+// The cases of all parts, each with its number.
+#[derive(Clone, Copy, PartialEq, Eq, Debug, thiserror::Error)]
 pub enum Refusal {
-    // A set's number of unknowns is 0 or above 96.
-    Unknowns,
-    // A set's memory is too short.
-    Memory,
-    // A column, a query or an answer is not as long as there are unknowns, or the lengths of a working disagree.
-    Length,
-    // A batch's columns or a verdict list have the wrong length.
-    List,
-    // The width is not 1 to 32, or a work run is too short.
-    Work,
-    // A solution or a determinant is asked for while columns are missing.
-    Missing,
-    // A place is not held, or a pivot leads out of its panel.
-    Place,
-    // A sheet is empty, or its last line has no end.
-    LineEnd,
-    // A name is misspelt.
-    Name,
-    // The header does not end with `target` where it should.
-    Header,
-    // A value is misspelt.
-    Value,
-    // A line has too few or too many values.
-    Count,
-    // A name was used before.
-    Repeated,
+    #[error("a set's number of unknowns is 0 or above 96")]
+    Unknowns = 1,
+    #[error("a set's memory is too short")]
+    Memory = 2,
+    #[error("a column, a query or an answer is not as long as there are unknowns, or the lengths of a working disagree")]
+    Length = 3,
+    #[error("a batch's columns or a verdict list have the wrong length")]
+    List = 4,
+    #[error("the width is not 1 to 32, or a work run is too short")]
+    Work = 5,
+    #[error("a solution or a determinant is asked for while columns are missing")]
+    Missing = 6,
+    #[error("a place is not held, or a pivot leads out of its panel")]
+    Place = 7,
+    #[error("a sheet is empty, or its last line has no end")]
+    LineEnd = 8,
+    #[error("a name is misspelt")]
+    Name = 9,
+    #[error("the header does not end with `target` where it should")]
+    Header = 10,
+    #[error("a value is misspelt")]
+    Value = 11,
+    #[error("a line has too few or too many values")]
+    Count = 12,
+    #[error("a name was used before")]
+    Repeated = 13,
 }
 
 impl Refusal {
     pub fn number(self) -> u8
         ensures { result ≡ refusal_number self }
     {
-        match self {
-            Refusal::Unknowns => 1,
-            Refusal::Memory => 2,
-            Refusal::Length => 3,
-            Refusal::List => 4,
-            Refusal::Work => 5,
-            Refusal::Missing => 6,
-            Refusal::Place => 7,
-            Refusal::LineEnd => 8,
-            Refusal::Name => 9,
-            Refusal::Header => 10,
-            Refusal::Value => 11,
-            Refusal::Count => 12,
-            Refusal::Repeated => 13,
-        }
+        self as u8
     }
 }

@@ -1,22 +1,17 @@
-use Rattle.std.proofs.Common.{◌≡◌, min, length, sym, ap, ◌∙◌, ap₂, add-one, arith}
-use Rattle.arithmetic.specs.Runs.{row, dot}
+use Rattle.std.proofs.Common.{sym, ◌∙◌, ap₂, add-one, rules, length-append}
+use Rattle.std.proofs.lemmas.Slice.Zip.{zip_turn}
 use Rattle.arithmetic.proofs.Rows.{row_inside}
 use Rattle.arithmetic.proofs.elements.sum_of_products.Goals as goal
 
-pub loop-i-preserved : goal.loop-i-preserved
-loop-i-preserved g c =
+pub loop-x-preserved : goal.loop-x-preserved
+loop-x-preserved g c =
     let F = g.T.Arithmetic.field.ops in
     let value = g.T.Arithmetic.value in
-    let i = c.loop-i.i in
-    let x = row_inside F value c.args.a.now i c.index-a-i.result (omega arith) c.index-a-i.is in
-    let y = row_inside F value c.args.b.now i c.index-b-i.result (omega arith) c.index-b-i.is in
-    rw add-one
+    let a = c.args.a.now in
+    let b = c.args.b.now in
+    let x = c.in-Some.x.now in
+    let y = c.in-Some.y.now in
+    let at = zip_turn a b c.loop-x.yielded c.into_iter-x-iterator.result c.loop-x.x-iterator c.next.new.self c.next.result (search rules) (search rules) c.loop-x.yielded_by _ c.in-Some.is c.next.ensures.steps in
+    rw (length-append, add-one)
     (c.sum-sum.ensures
-    ∙ ap₂ F.sum c.loop-i.invariant (c.product.ensures ∙ ap₂ F.product (sym x) (sym y)))
-
-pub returns : goal.returns
-returns g c =
-    let F = g.T.Arithmetic.field.ops in
-    let value = g.T.Arithmetic.value in
-    let all : c.loop-i.i ≡ min (length c.args.a.now) (length c.args.b.now) = omega arith in
-    c.loop-i.invariant ∙ ap (λ n. dot F n (row F value c.args.a.now) (row F value c.args.b.now)) all
+    ∙ ap₂ F.sum c.loop-x.invariant (c.product.ensures ∙ ap₂ F.product (sym (row_inside F value a _ x at.0 (at.2 x))) (sym (row_inside F value b _ y at.1 (at.3 y)))))

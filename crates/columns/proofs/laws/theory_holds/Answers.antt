@@ -1,6 +1,5 @@
-use Rattle.std.proofs.Common.{rules}
 use Rattle.columns.proofs.Theory.{theory}
 use Rattle.columns.proofs.laws.theory_holds.Goals as goal
 
-pub returns : goal.returns
-returns g c = record { theory = theory g.T.Arithmetic.field.ops g.met.T.Arithmetic.lawful; zero = search rules }
+pub returns-clause-theory : goal.returns-clause-theory
+returns-clause-theory g c = theory g.T.Arithmetic.field.ops g.met.T.Arithmetic.lawful

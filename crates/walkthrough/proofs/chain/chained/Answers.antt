@@ -2,7 +2,7 @@ use Rattle.std.proofs.Common.{◌≡◌, get_or, take, ℤ, pos, ◌+ℤ◌, fol
 use Rattle.std.proofs.lemmas.Int.{to_z-of_z}
 use Rattle.std.proofs.lemmas.List.Sums.{fold_more}
 use Rattle.std.proofs.lemmas.List.{take_all}
-use Rattle.arithmetic.specs.Laws.{bring_sum}
+use Rattle.arithmetic.specs.Lemmas.Laws.{bring_sum}
 use Rattle.walkthrough.proofs.chain.chained.Goals as goal
 
 pub loop-length-preserved : goal.loop-length-preserved

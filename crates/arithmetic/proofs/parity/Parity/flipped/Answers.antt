@@ -1,5 +1,5 @@
 use Rattle.std.proofs.Common.{refl}
-use Rattle.arithmetic.specs.Modulars.{below_path}
+use Rattle.arithmetic.specs.Lemmas.Modulars.{below_path}
 use Rattle.arithmetic.proofs.parity.Parity.flipped.Goals as goal
 
 pub returns-in-Odd : goal.returns-in-Odd

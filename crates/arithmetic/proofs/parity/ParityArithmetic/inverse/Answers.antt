@@ -1,4 +1,4 @@
-use Rattle.arithmetic.specs.Parities.{inverse_is}
+use Rattle.arithmetic.specs.Lemmas.Parities.{inverse_is}
 use Rattle.arithmetic.proofs.parity.ParityArithmetic.inverse.Goals as goal
 
 pub returns : goal.returns

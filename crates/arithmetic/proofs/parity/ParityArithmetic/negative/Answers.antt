@@ -1,4 +1,4 @@
-use Rattle.arithmetic.specs.Parities.{negative_is}
+use Rattle.arithmetic.specs.Lemmas.Parities.{negative_is}
 use Rattle.arithmetic.proofs.parity.ParityArithmetic.negative.Goals as goal
 
 pub returns : goal.returns

@@ -1,8 +1,5 @@
-use Rattle.arithmetic.specs.Parities.{even_product, odd_product}
+use Rattle.arithmetic.specs.Lemmas.Parities.{even_product}
 use Rattle.arithmetic.proofs.parity.ParityArithmetic.product.Goals as goal
 
 pub returns-in-Even : goal.returns-in-Even
 returns-in-Even c = rw c.in-Even.is (even_product c.args.other)
-
-pub returns-in-Odd : goal.returns-in-Odd
-returns-in-Odd c = rw c.in-Odd.is (odd_product c.args.other)

@@ -1,6 +1,6 @@
 use Rattle.std.proofs.Common.{◌≡◌, ◌%◌, ◌<◌, ◌∙◌, mod-lt, arith}
-use Rattle.arithmetic.specs.Primes.{prime_65479}
-use Rattle.arithmetic.specs.Residues.{turn, inverse_is, inverse_of_zero}
+use Rattle.arithmetic.specs.Lemmas.Primes.{prime_65479}
+use Rattle.arithmetic.specs.Lemmas.Residues.{turn, inverse_is, inverse_of_zero}
 use Rattle.arithmetic.proofs.residue.ResidueArithmetic.inverse.Goals as goal
 
 pub returns-then-rest-eq0 : goal.returns-then-rest-eq0

@@ -1,4 +1,4 @@
-use Rattle.arithmetic.specs.Residues.{product_is}
+use Rattle.arithmetic.specs.Lemmas.Residues.{product_is}
 use Rattle.arithmetic.proofs.residue.ResidueArithmetic.product.Goals as goal
 
 pub returns : goal.returns

@@ -1,4 +1,4 @@
-use Rattle.arithmetic.specs.Residues.{sum_is}
+use Rattle.arithmetic.specs.Lemmas.Residues.{sum_is}
 use Rattle.arithmetic.proofs.residue.ResidueArithmetic.sum.Goals as goal
 
 pub returns : goal.returns

@@ -1,22 +1,13 @@
-use Rattle.std.proofs.Common.{◌∙◌, arith}
-use Rattle.columns.specs.Picks.{IsFirst}
-use Rattle.columns.specs.PicksLemmas.{said, topmost_in_words}
-use Rattle.columns.proofs.Searches.{first_next, first_found, first_none}
+use Rattle.std.proofs.Common.{not, ◌==◌, position, sym, ◌∙◌, rules, tests}
+use Rattle.std.proofs.lemmas.Iterator.{YieldsList-from_slice}
+use Rattle.std.proofs.lemmas.Iterator.Search.{position_from_yields_List}
+use Rattle.columns.specs.Lemmas.Picks.{fit_by_test, guard_on}
 use Rattle.columns.proofs.choosers.TopmostChooser.choose.Goals as goal
 
-pub returns-then-code-ne0 : goal.returns-then-code-ne0
-returns-then-code-ne0 c =
+pub returns-clause-picked : goal.returns-clause-picked
+returns-clause-picked c =
     let cs = c.args.codes.now in
     let us = c.args.unknowns.now in
-    let found = first_found cs c.loop-i.i us (omega arith, omega arith) (omega arith) c.if-code-ne0.true c.loop-i.invariant in
-    record { picked = found; in_words = said cs us (IsFirst cs) found (topmost_in_words cs us) }
-
-pub loop-i-preserved : goal.loop-i-preserved
-loop-i-preserved c = first_next c.args.codes.now c.loop-i.i (omega arith) (omega arith) ∙ c.loop-i.invariant
-
-pub returns : goal.returns
-returns c =
-    let cs = c.args.codes.now in
-    let us = c.args.unknowns.now in
-    let none = first_none cs c.loop-i.i us (omega arith, omega arith) (omega arith) c.loop-i.invariant in
-    record { picked = none; in_words = said cs us (IsFirst cs) none (topmost_in_words cs us) }
+    let fit = fit_by_test cs us c.fits.result c.fits.ensures c.if-not-fits.false in
+    let first = position_from_yields_List (λ x. not (x == 0)) _ _ c.position.result c.position.ensures.ran (YieldsList-from_slice cs cc) (λ x b q k. search (rules, tests)) in
+    first ∙ sym (guard_on (λ xs ys. position (λ x. not (x == 0)) xs) cs us fit)

@@ -1,37 +1,31 @@
-use Rattle.std.proofs.Common.{◌<◌, ◌≢◌, length, sym, ◌∙◌, arith, length-set, get_or-set_other, get_or-set_same, below_more}
+use Rattle.std.proofs.Common.{length, rules, arith, length-set, length-append}
 use Rattle.columns.specs.Picks.{Spares}
-use Rattle.columns.specs.PicksLemmas.{said, masked_at, keep_free_in_words}
-use Rattle.columns.proofs.Searches.{shown_whole, kept_some, kept_none}
+use Rattle.columns.specs.Lemmas.Picks.{fit_by_test, said, cases_map, keep_free_in_words}
+use Rattle.columns.proofs.Searches.{shown_whole, shown_next, kept}
+use Rattle.columns.proofs.Zips.{counted_turn, counted_end}
 use Rattle.columns.proofs.keep_free.KeepFreeChooser.choose.Goals as goal
 
 pub loop-i-preserved : goal.loop-i-preserved
 loop-i-preserved g c =
-    let i = c.loop-i.i in
-    let table = c.loop-i.shown in
-    let code = c.shown_code.result in (
+    let p = g.C.Chooser.pick c.args.self.now.below in
+    let marks = c.args.self.now.marks in
+    let cs = c.args.codes.now in
+    let us = c.args.unknowns.now in
+    let fit = fit_by_test cs us c.fits.result c.fits.ensures c.if-not-fits.false in
+    let turn = counted_turn cs us c.loop-i.yielded c.into_iter-i-iterator.result c.loop-i.i-iterator c.next.new.self (search rules) (search rules) (search rules) c.loop-i.yielded_by c.next.result (c.in-Some.i, (c.in-Some.code, c.in-Some.unknown)) c.in-Some.is c.next.ensures.steps in (
       simp length-set c.loop-i.invariant.0,
-      below_more _ _
-          (λ k h. let ne : k ≢ i = omega arith in get_or-set_other table i k code 0 ne ∙ c.loop-i.invariant.1 k h)
-          (let lt : i < length table = omega (arith, c.loop-i.invariant.0) in
-          get_or-set_same table i code 0 lt ∙ c.shown_code.ensures ∙ sym (masked_at c.args.self.now.marks c.args.codes.now c.args.unknowns.now i (omega arith) (omega arith))),
+      λ k h. shown_next p marks cs us fit c.loop-i.shown c.in-Some.i (length c.loop-i.yielded) c.shown_code.result c.in-Some.code.now c.in-Some.unknown.now
+          c.loop-i.invariant.0 turn.0 turn.1 (turn.3 0) (turn.4 0) c.shown_code.ensures c.loop-i.invariant.1 k (simp length-append at h),
     )
 
-pub returns-in-Some : goal.returns-in-Some
-returns-in-Some g c =
+pub returns : goal.returns
+returns g c =
     let p = g.C.Chooser.pick c.args.self.now.below in
     let marks = c.args.self.now.marks in
     let cs = c.args.codes.now in
     let us = c.args.unknowns.now in
-    let whole = shown_whole p marks cs us (omega arith, omega arith) c.loop-i.shown _ c.loop-i.i c.loop-i.invariant.0 (omega arith) (omega arith) c.loop-i.invariant.1 in
-    let found = kept_some p marks cs us (omega arith, omega arith) _ c.in-Some.i whole c.in-Some.ensures in
-    record { picked = found; in_words = said cs us (Spares marks cs us) found (keep_free_in_words p marks (g.met.C.Chooser.lawful c.args.self.now.below) cs us) }
-
-pub returns-in-None : goal.returns-in-None
-returns-in-None g c =
-    let p = g.C.Chooser.pick c.args.self.now.below in
-    let marks = c.args.self.now.marks in
-    let cs = c.args.codes.now in
-    let us = c.args.unknowns.now in
-    let whole = shown_whole p marks cs us (omega arith, omega arith) c.loop-i.shown _ c.loop-i.i c.loop-i.invariant.0 (omega arith) (omega arith) c.loop-i.invariant.1 in
-    let found = kept_none p marks cs us (omega arith, omega arith) _ _ whole c.in-None.ensures c.choose-in-None.ensures in
+    let fit = fit_by_test cs us c.fits.result c.fits.ensures c.if-not-fits.false in
+    let all = counted_end cs us c.loop-i.yielded c.into_iter-i-iterator.result c.loop-i.i-iterator c.next.new.self (search rules) (search rules) (search rules) c.loop-i.yielded_by c.next.result c.in-None.is c.next.ensures.steps in
+    let whole = shown_whole p marks cs us fit c.loop-i.shown _ (length c.loop-i.yielded) c.loop-i.invariant.0 (omega arith) (omega (arith, fit.0)) c.loop-i.invariant.1 in
+    let found = kept p marks cs us fit _ c.choose.result c.or_else.result whole c.choose.ensures (cases_map c.choose.result (λ h. search rules) (λ i h. h) c.or_else.ensures) in
     record { picked = found; in_words = said cs us (Spares marks cs us) found (keep_free_in_words p marks (g.met.C.Chooser.lawful c.args.self.now.below) cs us) }

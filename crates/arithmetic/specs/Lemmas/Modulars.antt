@@ -10,8 +10,9 @@ use Rattle.std.proofs.Math.IntN.{+ℤ_one}
 use Rattle.std.specs.Int.{int_rem_euclid}
 use Rattle.arithmetic.specs.Fields.{Lawful}
 use Rattle.arithmetic.specs.Modular.{Below, inverse_of, modular}
-use Rattle.arithmetic.specs.Remainders.{mod_mul_mod, mul_mod_mod, descent}
-use Rattle.arithmetic.specs.Primes.{Prime}
+use Rattle.std.proofs.lemmas.Nat.{mul-mod_first, mul-mod_second}
+use Rattle.arithmetic.specs.Lemmas.Remainders.{descent}
+use Rattle.arithmetic.specs.Lemmas.Primes.{Prime}
 
 -- values below p are equal where their numbers are
 pub below_path : {p : ℕ} {x y : Below p} → x.0 ≡ y.0 → x ≡ y
@@ -19,11 +20,11 @@ below_path e = Σ_prop_path (λ n. le_prop) e
 
 descend : (p a t : ℕ) → 0 < a → t * (p % a) % p ≡ 1 → t * (p - p / a) % p * a % p ≡ 1
 descend p a t positive e =
-    mod_mul_mod (t * (p - p / a)) a p
+    mul-mod_first (t * (p - p / a)) a p
     ∙ ap (λ x. x % p) (mul_assoc t (p - p / a) a)
-    ∙ sym (mul_mod_mod t ((p - p / a) * a) p)
+    ∙ sym (mul-mod_second t ((p - p / a) * a) p)
     ∙ ap (λ x. t * x % p) (descent p a positive)
-    ∙ mul_mod_mod t (p % a) p
+    ∙ mul-mod_second t (p % a) p
     ∙ e
 
 module _ (p : ℕ) (prime : Prime p) where
@@ -84,10 +85,10 @@ module _ (p : ℕ) (prime : Prime p) where
     sum_comm = λ x y. below_path (ap (λ n. n % p) (omega arith));
     sum_zero = λ x. below_path (add-mod-mod x.0 0 p ∙ ap (λ n. n % p) (omega arith) ∙ mod-eq_of_lt x.1);
     sum_negative = λ x. below_path (add-mod-mod x.0 (p - x.0) p ∙ ap (λ n. n % p) (omega (arith, x.1)) ∙ mod_self p ∙ sym (zero-mod p));
-    product_assoc = λ x y z. below_path (mod_mul_mod (x.0 * y.0) z.0 p ∙ ap (λ n. n % p) (mul_assoc x.0 y.0 z.0) ∙ sym (mul_mod_mod x.0 (y.0 * z.0) p));
+    product_assoc = λ x y z. below_path (mul-mod_first (x.0 * y.0) z.0 p ∙ ap (λ n. n % p) (mul_assoc x.0 y.0 z.0) ∙ sym (mul-mod_second x.0 (y.0 * z.0) p));
     product_comm = λ x y. below_path (ap (λ n. n % p) (mul_comm x.0 y.0));
-    product_one = λ x. below_path (mul_mod_mod x.0 1 p ∙ ap (λ n. n % p) (mul-one x.0) ∙ mod-eq_of_lt x.1);
-    distrib = λ x y z. below_path (mul_mod_mod x.0 (y.0 + z.0) p ∙ ap (λ n. n % p) (mul-add x.0 y.0 z.0) ∙ add-mod (x.0 * y.0) (x.0 * z.0) p);
+    product_one = λ x. below_path (mul-mod_second x.0 1 p ∙ ap (λ n. n % p) (mul-one x.0) ∙ mod-eq_of_lt x.1);
+    distrib = λ x y z. below_path (mul-mod_second x.0 (y.0 + z.0) p ∙ ap (λ n. n % p) (mul-add x.0 y.0 z.0) ∙ add-mod (x.0 * y.0) (x.0 * z.0) p);
     product_inverse = λ x n. below_path (right_inverse x (λ z. n (below_path (z ∙ sym (zero-mod p)))));
     inverse_zero = below_path (unfold inverse_of in ap (λ z. inverse_of p z z % p) (zero-mod p));
     apart = λ e. let z : 0 % p ≡ 1 % p = ap (λ x. x.0) e in omega (arith, zero-mod p, one_stays);
@@ -101,7 +102,7 @@ module _ (p : ℕ) (prime : Prime p) where
     where
       right_inverse : (x : Below p) → ¬ (x.0 ≡ 0) → x.0 * (inverse_of p x.0 x.0 % p) % p ≡ 1 % p
       right_inverse x n =
-          mul_mod_mod x.0 (inverse_of p x.0 x.0) p
+          mul-mod_second x.0 (inverse_of p x.0 x.0) p
           ∙ ap (λ y. y % p) (mul_comm x.0 _)
           ∙ inverse_of_right x.0 x.0 (omega arith) (omega arith) x.1
           ∙ sym one_stays

@@ -6,8 +6,8 @@ use Rattle.arithmetic.specs.Modular.{inverse_of}
 use Rattle.arithmetic.specs.Elements.{parities, parity}
 use Rattle.arithmetic.specs.declared.parity.Parity.{Parity}
 use Rattle.arithmetic.specs.declared.parity.Parity.TheVariants.{Even, Odd}
-use Rattle.arithmetic.specs.Primes.{prime_2}
-use Rattle.arithmetic.specs.Modulars.{below_path, modular_lawful}
+use Rattle.arithmetic.specs.Lemmas.Primes.{prime_2}
+use Rattle.arithmetic.specs.Lemmas.Modulars.{below_path, modular_lawful}
 
 pub parities_lawful : Lawful parities.ops
 parities_lawful = modular_lawful 2 prime_2 (lit< tt) (lit< tt)
@@ -20,14 +20,6 @@ pub inverse_is : (x : Parity) → parity x ≡ parities.ops.inverse (parity x)
 unfolding inverse_of
 inverse_is Even = below_path refl
 inverse_is Odd = below_path refl
-
-pub even_sum : (x : Parity) → parity x ≡ parities.ops.sum (parity Even) (parity x)
-even_sum Even = below_path refl
-even_sum Odd = below_path refl
-
-pub odd_product : (x : Parity) → parity x ≡ parities.ops.product (parity Odd) (parity x)
-odd_product Even = below_path refl
-odd_product Odd = below_path refl
 
 pub even_product : (x : Parity) → parity Even ≡ parities.ops.product (parity Even) (parity x)
 even_product Even = below_path refl

@@ -5,10 +5,11 @@ use Rattle.std.proofs.Math.Nat.{mod-mod, add-mod}
 use Rattle.arithmetic.specs.Fields.{Lawful}
 use Rattle.arithmetic.specs.Elements.{residues, residue}
 use Rattle.arithmetic.specs.declared.residue.Residue.{Residue}
-use Rattle.arithmetic.specs.Laws.{inverse_unique}
-use Rattle.arithmetic.specs.Remainders.{mod_mul_mod, mul_mod_mod, descent}
-use Rattle.arithmetic.specs.Primes.{prime_65479}
-use Rattle.arithmetic.specs.Modulars.{below_path, modular_lawful}
+use Rattle.arithmetic.specs.Lemmas.Laws.{inverse_unique}
+use Rattle.std.proofs.lemmas.Nat.{mul-mod_first, mul-mod_second}
+use Rattle.arithmetic.specs.Lemmas.Remainders.{descent}
+use Rattle.arithmetic.specs.Lemmas.Primes.{prime_65479}
+use Rattle.arithmetic.specs.Lemmas.Modulars.{below_path, modular_lawful}
 
 abbrev P : ℕ
 P = 65479
@@ -23,16 +24,16 @@ pub sum_is : (a b : ℕ) → residue (of ((a + b) % P)) ≡ residues.ops.sum (re
 sum_is a b = below_path (mod-mod (a + b) P ∙ add-mod a b P)
 
 pub product_is : (a b : ℕ) → residue (of (a * b % P)) ≡ residues.ops.product (residue (of a)) (residue (of b))
-product_is a b = below_path (mod-mod (a * b) P ∙ sym (mul_mod_mod (a % P) b P ∙ mod_mul_mod a b P))
+product_is a b = below_path (mod-mod (a * b) P ∙ sym (mul-mod_second (a % P) b P ∙ mul-mod_first a b P))
 
 -- a turn of the descent: t times s is a, so t times P - P / a, times s, is P % a
 pub turn : (s a t : ℕ) → 0 < a → a < P → t * s % P ≡ a → t * (P - P / a) % P * s % P ≡ P % a
 turn s a t above below e =
     let u = P - P / a in
     let small : P % a < P = omega (arith, mod-lt P above) in
-    mod_mul_mod (t * u) s P
+    mul-mod_first (t * u) s P
     ∙ ap (λ x. x % P) (ap (λ x. x * s) (mul_comm t u) ∙ mul_assoc u t s)
-    ∙ sym (mul_mod_mod u (t * s) P)
+    ∙ sym (mul-mod_second u (t * s) P)
     ∙ ap (λ x. u * x % P) e
     ∙ descent P a above
     ∙ mod-eq_of_lt small
@@ -45,7 +46,7 @@ inverse_is s t e =
     let v : t * (s % P) ≡ 0 = ap (λ x. t * x) w ∙ mul-zero t in
     let y : ◌≡◌ {A = ℕ} 0 1 = sym (ap (λ x. x % P) v) ∙ e in
     omega arith)
-    (below_path (mul_mod_mod (s % P) t P ∙ ap (λ x. x % P) (mul_comm (s % P) t) ∙ e))
+    (below_path (mul-mod_second (s % P) t P ∙ ap (λ x. x % P) (mul_comm (s % P) t) ∙ e))
 
 pub inverse_of_zero : (s : ℕ) → s % P ≡ 0 → residues.ops.zero ≡ residues.ops.inverse (residue (of s))
 inverse_of_zero s z =

@@ -1,15 +1,24 @@
 -- Each chooser picks what it says, and keeps the law.
-use Rattle.std.specs.Prelude.{◌≡◌, ℕ, zero, suc, ◌+◌, ◌<◌, ◌≤◌, Bool, true, false, cond, ◌&&◌, ◌⊎◌, List, [], ◌∷◌, length, Some, None, Option, MatchOption, ◌==◌, nat_le, nat_lt, slice_index, refl}
+use Rattle.std.specs.Prelude.{◌≡◌, ℕ, zero, suc, ◌+◌, ◌<◌, ◌≤◌, Bool, true, false, not, cond, ◌⊎◌, List, [], ◌∷◌, length, Some, None, Option, MatchOption, ◌==◌, nat_lt, slice_index, refl}
+use Rattle.std.specs.List.{position, position_from}
+use Rattle.std.specs.Option.{option_or}
+use Rattle.std.proofs.lemmas.Iterator.Adapters.{position_from-zero}
 use Rattle.std.proofs.Common.{sym, ap, subst, ◌∙◌, inl, inr, ⊎_elim, arith, le_of_suc-le-suc}
-use Rattle.std.proofs.lemmas.Bool.{eq-eqb, ne_eqb, le-leb, lt-leb, lt-ltb, le-ltb, and_from, and_left, and_right, cond-true, cond-false, cases_eq, cases_lt, both_ways}
-use Rattle.columns.specs.Picks.{Pick, AllZero, NonzeroAt, Fit, LawfulPick, guarded, first_from, greatest_from, topmost, greatest, marked, masked, or_else, keep_free, IsFirst, IsGreatest, Spares, InWords}
+use Rattle.std.proofs.lemmas.Bool.{eq-eqb, ne_eqb, le-leb, lt-leb, lt-ltb, le-ltb, eqb-true, leb-true, and_parts, and_from, and_left, and_right, cond-true, cond-false, cases_eq, cases_lt, both_ways}
+use Rattle.columns.specs.Picks.{Pick, AllZero, NonzeroAt, Fit, LawfulPick, fits, guarded, greatest_from, topmost, greatest, marked, masked, keep_free, IsFirst, IsGreatest, Spares, InWords}
 
-cases_map : {P Q : Type 0} {R S : ℕ → Type 0} (o : Option ℕ) → (P → Q) → ((i : ℕ) → R i → S i) → MatchOption o P R → MatchOption o Q S
+pub cases_map : {P Q : Type 0} {R S : ℕ → Type 0} (o : Option ℕ) → (P → Q) → ((i : ℕ) → R i → S i) → MatchOption o P R → MatchOption o Q S
 cases_map None f g h = f h
 cases_map (Some i) f g h = g i h
 
 pub guard_on : (f : Pick) (cs us : List ℕ) → Fit cs us → guarded f cs us ≡ f cs us
-guard_on f cs us fit = cond-true (length cs == length us && nat_le (length cs) 96) (f cs us) None (and_from _ _ (eq-eqb _ _ fit.0) (le-leb _ _ fit.1))
+guard_on f cs us fit = cond-true (fits cs us) (f cs us) None (and_from _ _ (eq-eqb _ _ fit.0) (le-leb _ _ fit.1))
+
+-- what the test of the lists tells
+pub fit_by_test : (cs us : List ℕ) (b : Bool) → b ≡ fits cs us → b ≡ true → Fit cs us
+fit_by_test cs us b e t =
+    let both = and_parts _ _ (sym e ∙ t) in
+    (eqb-true _ _ both.0, leb-true _ _ both.1)
 
 -- what is said of an answer is said of its equal
 pub said : (cs us : List ℕ) (Of : ℕ → Type 0) {o r : Option ℕ} → r ≡ o → InWords cs us Of o → InWords cs us Of r
@@ -19,8 +28,8 @@ said cs us Of e = subst (InWords cs us Of) (sym e)
 pub guard_lawful : (f : Pick) → ((cs us : List ℕ) → Fit cs us → MatchOption (f cs us) (AllZero cs) (NonzeroAt cs)) → LawfulPick (guarded f)
 guard_lawful f h = record {
   answers = λ cs us fit. subst (λ (o : Option ℕ). MatchOption o (AllZero cs) (NonzeroAt cs)) (sym (guard_on f cs us fit)) (h cs us fit);
-  unequal = λ cs us ne. cond-false (length cs == length us && nat_le (length cs) 96) (f cs us) None (and_left _ _ (ne_eqb _ _ ne));
-  longer = λ cs us lt. cond-false (length cs == length us && nat_le (length cs) 96) (f cs us) None (and_right _ _ (lt-leb _ _ lt));
+  unequal = λ cs us ne. cond-false (fits cs us) (f cs us) None (and_left _ _ (ne_eqb _ _ ne));
+  longer = λ cs us lt. cond-false (fits cs us) (f cs us) None (and_right _ _ (lt-leb _ _ lt));
 }
 
 -- Topmost
@@ -42,30 +51,33 @@ first_more c cs j z h = record {
 first_here : (c : ℕ) (cs : List ℕ) → ¬ (c ≡ 0) → IsFirst (c ∷ cs) 0
 first_here c cs n = record { nonzero = (omega arith, n); zeros_before = λ k l. absurd (omega arith) }
 
+abbrev nonzero : ℕ → Bool
+nonzero c = not (c == 0)
+
 -- a place counted from k on
 From : ℕ → (ℕ → Type 0) → ℕ → Type 0
 From k P i = (j : ℕ) × (i ≡ k + j) × P j
 
-first_is : (k : ℕ) (cs : List ℕ) → MatchOption (first_from k cs) (AllZero cs) (From k (IsFirst cs))
+first_is : (k : ℕ) (cs : List ℕ) → MatchOption (position_from nonzero k cs) (AllZero cs) (From k (IsFirst cs))
 unfolding From
 first_is k [] = λ j l. absurd (omega arith)
 first_is k (c ∷ cs) =
     let F : Option ℕ → Type 0 = λ o. MatchOption o (AllZero (c ∷ cs)) (From k (IsFirst (c ∷ cs))) in
     ⊎_elim
-    (λ z. subst F (sym (cond-true (c == 0) (first_from (suc k) cs) (Some k) (eq-eqb c 0 z)))
-    (cases_map (first_from (suc k) cs) (zero_more c cs z) (λ i h. (suc h.0, omega (arith, h.1), first_more c cs h.0 z h.2)) (first_is (suc k) cs)))
-    (λ n. subst F (sym (cond-false (c == 0) (first_from (suc k) cs) (Some k) (ne_eqb c 0 n))) (0, omega arith, first_here c cs n))
+    (λ z. subst F (sym (cond-false (nonzero c) (Some k) (position_from nonzero (k + 1) cs) (ap not (eq-eqb c 0 z))))
+    (cases_map (position_from nonzero (k + 1) cs) (zero_more c cs z) (λ i h. (suc h.0, omega (arith, h.1), first_more c cs h.0 z h.2)) (first_is (k + 1) cs)))
+    (λ n. subst F (sym (cond-true (nonzero c) (Some k) (position_from nonzero (k + 1) cs) (ap not (ne_eqb c 0 n)))) (0, omega arith, first_here c cs n))
     (cases_eq c 0)
 
 pub topmost_in_words : (cs us : List ℕ) → InWords cs us (IsFirst cs) (topmost cs us)
 unfolding From
 topmost_in_words cs us fit =
-    subst (λ (o : Option ℕ). MatchOption o (AllZero cs) (IsFirst cs)) (sym (guard_on (λ xs ys. first_from 0 xs) cs us fit))
-    (cases_map (first_from 0 cs) (λ h. h) (λ i h. let e : h.0 ≡ i = omega (arith, h.1) in subst (IsFirst cs) e h.2) (first_is 0 cs))
+    subst (λ (o : Option ℕ). MatchOption o (AllZero cs) (IsFirst cs)) (sym (guard_on (λ xs ys. position nonzero xs) cs us fit ∙ position_from-zero nonzero cs))
+    (cases_map (position_from nonzero 0 cs) (λ h. h) (λ i h. let e : h.0 ≡ i = omega (arith, h.1) in subst (IsFirst cs) e h.2) (first_is 0 cs))
 
 pub topmost_lawful : LawfulPick topmost
-topmost_lawful = guard_lawful (λ cs us. first_from 0 cs) (λ cs us fit.
-    subst (λ (o : Option ℕ). MatchOption o (AllZero cs) (NonzeroAt cs)) (guard_on (λ xs ys. first_from 0 xs) cs us fit)
+topmost_lawful = guard_lawful (λ cs us. position nonzero cs) (λ cs us fit.
+    subst (λ (o : Option ℕ). MatchOption o (AllZero cs) (NonzeroAt cs)) (guard_on (λ xs ys. position nonzero xs) cs us fit)
     (cases_map (topmost cs us) (λ h. h) (λ i h. h.nonzero) (topmost_in_words cs us fit)))
 
 -- Greatest
@@ -178,19 +190,19 @@ module _ (p : Pick) (m : List Bool) (w : LawfulPick p) (cs us : List ℕ) (fit :
   abbrev Kept : ℕ → Type 0
   Kept i = NonzeroAt cs i × Spares m cs us i
 
-  both : (o q : Option ℕ) → MatchOption o (AllZero (masked m cs us)) (NonzeroAt (masked m cs us)) → MatchOption q (AllZero cs) (NonzeroAt cs) → MatchOption (or_else o q) (AllZero cs) Kept
+  both : (o q : Option ℕ) → MatchOption o (AllZero (masked m cs us)) (NonzeroAt (masked m cs us)) → MatchOption q (AllZero cs) (NonzeroAt cs) → MatchOption (option_or o q) (AllZero cs) Kept
   both (Some i) q h k = let n = masked_nonzero i h in (n.0, λ e. absurd (both_ways _ n.1 e))
   both None None h k = k
   both None (Some i) h k = (k, λ e. masked_zero h)
 
-  pub keep_free_kept : MatchOption (or_else (p (masked m cs us) us) (p cs us)) (AllZero cs) Kept
+  pub keep_free_kept : MatchOption (option_or (p (masked m cs us) us) (p cs us)) (AllZero cs) Kept
   keep_free_kept = both (p (masked m cs us) us) (p cs us) shown (w.answers cs us fit)
 
 pub keep_free_in_words : (p : Pick) (m : List Bool) → LawfulPick p → (cs us : List ℕ) → InWords cs us (Spares m cs us) (keep_free p m cs us)
 keep_free_in_words p m w cs us fit =
-    subst (λ (o : Option ℕ). MatchOption o (AllZero cs) (Spares m cs us)) (sym (guard_on (λ xs ys. or_else (p (masked m xs ys) ys) (p xs ys)) cs us fit))
-    (cases_map (or_else (p (masked m cs us) us) (p cs us)) (λ h. h) (λ i h. h.1) (keep_free_kept p m w cs us fit))
+    subst (λ (o : Option ℕ). MatchOption o (AllZero cs) (Spares m cs us)) (sym (guard_on (λ xs ys. option_or (p (masked m xs ys) ys) (p xs ys)) cs us fit))
+    (cases_map (option_or (p (masked m cs us) us) (p cs us)) (λ h. h) (λ i h. h.1) (keep_free_kept p m w cs us fit))
 
 pub keep_free_lawful : (p : Pick) (m : List Bool) → LawfulPick p → LawfulPick (keep_free p m)
-keep_free_lawful p m w = guard_lawful (λ cs us. or_else (p (masked m cs us) us) (p cs us)) (λ cs us fit.
-    cases_map (or_else (p (masked m cs us) us) (p cs us)) (λ h. h) (λ i h. h.0) (keep_free_kept p m w cs us fit))
+keep_free_lawful p m w = guard_lawful (λ cs us. option_or (p (masked m cs us) us) (p cs us)) (λ cs us fit.
+    cases_map (option_or (p (masked m cs us) us) (p cs us)) (λ h. h) (λ i h. h.0) (keep_free_kept p m w cs us fit))

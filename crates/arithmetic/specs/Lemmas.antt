@@ -1,0 +1,7 @@
+-- Lemmas, no definitions: they lie in specs/ because the laws of an impl may cite specs/ alone.
+pub mod Remainders
+pub mod Primes
+pub mod Modulars
+pub mod Parities
+pub mod Laws
+pub mod Residues
