@@ -22,8 +22,8 @@ fn differences(rt: HostRuntime) {
 // 3 · 5 + 65478 · 7 + 65535 · 2 = 3 · 5 - 7 + 56 · 2 = 120; the shorter run ends the sum.
 #[test]
 fn sums_of_products(rt: HostRuntime) {
-    let a = [Residue(3), Residue(65478), Residue(65535)];
-    let b = [Residue(5), Residue(7), Residue(2), Residue(9)];
+    let a = [3, 65478, 65535].map(Residue);
+    let b = [5, 7, 2, 9].map(Residue);
     assert_eq!(rt; sum_of_products(&a, &b).code(), 120);
     assert_eq!(rt; sum_of_products(&b, &a).code(), 120);
     assert_eq!(rt; sum_of_products(&a[0..2], &b).code(), 8);

@@ -22,7 +22,7 @@ fn inverses(rt: HostRuntime) {
         (65535, 47940),
     ];
     for (a, inverse) in table {
-        assert_eq!(rt; Residue(a).inverse().code(), inverse);
+        assert_eq!(rt; Residue(a).inverse().code(), inverse, "{a}");
     }
 }
 
@@ -41,8 +41,8 @@ fn products_and_sums(rt: HostRuntime) {
         (1, 65535, 56, 57),
     ];
     for (a, b, product, sum) in table {
-        assert_eq!(rt; Residue(a).product(Residue(b)).code(), product);
-        assert_eq!(rt; Residue(a).sum(Residue(b)).code(), sum);
+        assert_eq!(rt; Residue(a).product(Residue(b)).code(), product, "{a}, {b}");
+        assert_eq!(rt; Residue(a).sum(Residue(b)).code(), sum, "{a}, {b}");
     }
 }
 
@@ -56,7 +56,7 @@ fn negatives(rt: HostRuntime) {
         (65480, 65478),
         (65535, 65423),
     ] {
-        assert_eq!(rt; Residue(a).negative().code(), negative);
+        assert_eq!(rt; Residue(a).negative().code(), negative, "{a}");
     }
 }
 
@@ -77,8 +77,8 @@ fn whole_numbers_brought_in(rt: HostRuntime) {
         (999999, 17814, 1),
     ];
     for (n, residue, parity) in table {
-        assert_eq!(rt; Residue::bring(n).code(), residue);
-        assert_eq!(rt; Parity::bring(n).code(), parity);
+        assert_eq!(rt; Residue::bring(n).code(), residue, "{n}");
+        assert_eq!(rt; Parity::bring(n).code(), parity, "{n}");
     }
 }
 

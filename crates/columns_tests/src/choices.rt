@@ -14,8 +14,8 @@ fn the_first_and_the_greatest(rt: HostRuntime) {
         ([0, 0, u32::MAX, 1, u32::MAX], Some(2), Some(2)),
     ];
     for (codes, first, greatest) in table {
-        assert_eq!(rt; Topmost.choose(&codes, &unknowns), first);
-        assert_eq!(rt; Greatest.choose(&codes, &unknowns), greatest);
+        assert_eq!(rt; Topmost.choose(&codes, &unknowns), first, "{codes:?}");
+        assert_eq!(rt; Greatest.choose(&codes, &unknowns), greatest, "{codes:?}");
     }
 }
 

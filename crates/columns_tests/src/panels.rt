@@ -1,15 +1,7 @@
 // The workings on panels.
 use arithmetic::{Arithmetic, Parity, Residue};
 use columns::{solve_panel, subtract_product, swap_panel, unswap_panel};
-use std::process::Abort;
 use std::test::Fail;
-
-fn check_codes<T: Arithmetic>(rt: &impl Abort, panel: &[T], expected: &[u32]) {
-    assert_eq!(rt; panel.len(), expected.len());
-    for (element, code) in panel.iter().zip(expected.iter()) {
-        assert_eq!(rt; element.code(), *code);
-    }
-}
 
 #[test]
 fn swaps_in_order_and_backwards(rt: HostRuntime) -> Result<(), Fail> {
@@ -26,100 +18,63 @@ fn swaps_in_order_and_backwards(rt: HostRuntime) -> Result<(), Fail> {
 // Two columns of L, of height 4; what stands on and above its diagonal is not looked at.
 #[test]
 fn residues_solved_and_reduced(rt: HostRuntime) -> Result<(), Fail> {
-    let lower = [
-        Residue(7),
-        Residue(65478),
-        Residue(30000),
-        Residue(12),
-        Residue(5),
-        Residue(9),
-        Residue(65477),
-        Residue(40000),
-    ];
-    let mut panel = [
-        Residue(100),
-        Residue(200),
-        Residue(300),
-        Residue(400),
-        Residue(65478),
-        Residue(1),
-        Residue(65535),
-        Residue(0),
-    ];
+    let lower = [7, 65478, 30000, 12, 5, 9, 65477, 40000].map(Residue);
+    let mut panel = [100, 200, 300, 400, 65478, 1, 65535, 0].map(Residue);
     solve_panel(&lower, 4, 2, &mut panel)?;
-    check_codes(&rt, &panel, &[100, 300, 300, 400, 65478, 0, 56, 0]);
+    assert_eq!(rt;
+        panel.map(Residue::code),
+        [100, 300, 300, 400, 65478, 0, 56, 0]
+    );
     subtract_product(&lower, 4, 2, &mut panel)?;
-    check_codes(&rt, &panel, &[100, 300, 12934, 47336, 65478, 0, 30056, 12]);
+    assert_eq!(rt;
+        panel.map(Residue::code),
+        [100, 300, 12934, 47336, 65478, 0, 30056, 12]
+    );
     Ok(())
 }
 
 #[test]
 fn parities_solved_and_reduced(rt: HostRuntime) -> Result<(), Fail> {
-    let lower = [
-        Parity::Odd,
-        Parity::Odd,
-        Parity::Even,
-        Parity::Odd,
-        Parity::Even,
-        Parity::Odd,
-        Parity::Odd,
-        Parity::Odd,
-    ];
-    let mut panel = [
-        Parity::Odd,
-        Parity::Even,
-        Parity::Odd,
-        Parity::Odd,
-        Parity::Odd,
-        Parity::Odd,
-        Parity::Even,
-        Parity::Even,
-    ];
+    let lower = [1, 1, 0, 1, 0, 1, 1, 1].map(Parity::bring);
+    let mut panel = [1, 0, 1, 1, 1, 1, 0, 0].map(Parity::bring);
     solve_panel(&lower, 4, 2, &mut panel)?;
-    check_codes(&rt, &panel, &[1, 1, 1, 1, 1, 0, 0, 0]);
+    assert_eq!(rt; panel.map(Parity::code), [1, 1, 1, 1, 1, 0, 0, 0]);
     subtract_product(&lower, 4, 2, &mut panel)?;
-    check_codes(&rt, &panel, &[1, 1, 0, 1, 1, 0, 0, 1]);
+    assert_eq!(rt; panel.map(Parity::code), [1, 1, 0, 1, 1, 0, 0, 1]);
     Ok(())
 }
 
 // The third of the columns (3, -3, 6), (-1, 3, 0), (2, -1, 4) by the factors of the first two: (2, 1, -1).
 #[test]
 fn a_column_worked_by_two_others(rt: HostRuntime) -> Result<(), Fail> {
-    let lower = [
-        Residue(3),
-        Residue(65478),
-        Residue(2),
-        Residue(65478),
-        Residue(2),
-        Residue(1),
-    ];
-    let mut column = [Residue(2), Residue(65478), Residue(4)];
+    let lower = [3, 65478, 2, 65478, 2, 1].map(Residue);
+    let mut column = [2, 65478, 4].map(Residue);
     swap_panel(&mut column, 3, &[0, 0])?;
     solve_panel(&lower, 3, 2, &mut column)?;
     subtract_product(&lower, 3, 2, &mut column)?;
-    check_codes(&rt, &column, &[2, 1, 65478]);
+    assert_eq!(rt; column.map(Residue::code), [2, 1, 65478]);
     Ok(())
 }
 
 // c = 0 changes nothing.
 #[test]
 fn no_columns_of_factors(rt: HostRuntime) -> Result<(), Fail> {
-    let mut panel = [Residue(5), Residue(6)];
+    let mut panel = [5, 6].map(Residue);
     solve_panel(&[], 2, 0, &mut panel)?;
     subtract_product(&[], 2, 0, &mut panel)?;
-    check_codes(&rt, &panel, &[5, 6]);
+    assert_eq!(rt; panel.map(Residue::code), [5, 6]);
     Ok(())
 }
 
 // c = height leaves nothing to reduce.
 #[test]
 fn as_many_columns_of_factors_as_rows(rt: HostRuntime) -> Result<(), Fail> {
-    let lower = [Residue(1), Residue(2), Residue(3), Residue(4)];
-    let mut panel = [Residue(5), Residue(6)];
+    let lower = [1, 2, 3, 4].map(Residue);
+    let mut panel = [5, 6].map(Residue);
     solve_panel(&lower, 2, 2, &mut panel)?;
-    check_codes(&rt, &panel, &[5, 65475]);
+    assert_eq!(rt; panel.map(Residue::code), [5, 65475]);
     subtract_product(&lower, 2, 2, &mut panel)?;
-    check_codes(&rt, &panel, &[5, 65475]);
+    assert_eq!(rt; panel.map(Residue::code), [5, 65475]);
     Ok(())
 }
 

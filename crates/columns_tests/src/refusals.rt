@@ -1,27 +1,22 @@
 // When the workings refuse, and that they then change nothing.
 use arithmetic::{Arithmetic, Residue};
+use columns::Refusal::{Length, Place};
 use columns::{Refusal, solve_panel, subtract_product, swap_panel, unswap_panel};
 use std::process::Abort;
 
 #[test]
 fn swaps_refused(rt: HostRuntime) {
     let mut panel = [1, 2, 3, 4, 5, 6];
-    assert_eq!(rt; swap_panel(&mut panel, 4, &[0]), Err(Refusal::Length));
-    assert_eq!(rt; swap_panel(&mut panel, 0, &[]), Err(Refusal::Length));
-    assert_eq!(rt; swap_panel(&mut panel, 4, &[9]), Err(Refusal::Length));
-    assert_eq!(rt; swap_panel(&mut panel, 3, &[3]), Err(Refusal::Place));
-    assert_eq!(rt; swap_panel(&mut panel, 3, &[2, 2]), Err(Refusal::Place));
-    assert_eq!(rt;
-        swap_panel(&mut panel, 3, &[0, usize::MAX]),
-        Err(Refusal::Place)
-    );
-    assert_eq!(rt;
-        swap_panel(&mut panel, 3, &[0, 0, 0, 0]),
-        Err(Refusal::Place)
-    );
-    assert_eq!(rt; swap_panel(&mut panel[0..0], 0, &[0]), Err(Refusal::Place));
-    assert_eq!(rt; unswap_panel(&mut panel, 5, &[0]), Err(Refusal::Length));
-    assert_eq!(rt; unswap_panel(&mut panel, 2, &[1, 1]), Err(Refusal::Place));
+    assert_eq!(rt; swap_panel(&mut panel, 4, &[0]), Err(Length));
+    assert_eq!(rt; swap_panel(&mut panel, 0, &[]), Err(Length));
+    assert_eq!(rt; swap_panel(&mut panel, 4, &[9]), Err(Length));
+    assert_eq!(rt; swap_panel(&mut panel, 3, &[3]), Err(Place));
+    assert_eq!(rt; swap_panel(&mut panel, 3, &[2, 2]), Err(Place));
+    assert_eq!(rt; swap_panel(&mut panel, 3, &[0, usize::MAX]), Err(Place));
+    assert_eq!(rt; swap_panel(&mut panel, 3, &[0, 0, 0, 0]), Err(Place));
+    assert_eq!(rt; swap_panel(&mut panel[0..0], 0, &[0]), Err(Place));
+    assert_eq!(rt; unswap_panel(&mut panel, 5, &[0]), Err(Length));
+    assert_eq!(rt; unswap_panel(&mut panel, 2, &[1, 1]), Err(Place));
     assert_eq!(rt; panel, [1, 2, 3, 4, 5, 6]);
 }
 
@@ -32,17 +27,9 @@ fn check_refused(
     c: usize,
     panel: &mut [Residue],
 ) {
-    assert_eq!(rt;
-        solve_panel(factors, height, c, panel),
-        Err(Refusal::Length)
-    );
-    assert_eq!(rt;
-        subtract_product(factors, height, c, panel),
-        Err(Refusal::Length)
-    );
-    for x in panel.iter() {
-        assert_eq!(rt; x.code(), 7);
-    }
+    assert_eq!(rt; solve_panel(factors, height, c, panel), Err(Length));
+    assert_eq!(rt; subtract_product(factors, height, c, panel), Err(Length));
+    assert!(rt; panel.iter().all(|x| x.code() == 7));
 }
 
 #[test]
@@ -75,6 +62,6 @@ fn numbers(rt: HostRuntime) {
         (Refusal::Repeated, 13),
     ];
     for (refusal, number) in table {
-        assert_eq!(rt; refusal.number(), number);
+        assert_eq!(rt; refusal.number(), number, "{refusal:?}");
     }
 }

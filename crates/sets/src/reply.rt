@@ -1,5 +1,5 @@
 // What is said of a query.
-#[derive(Clone, Copy)]
+#[derive(Clone, Copy, Debug, PartialEq, Eq)]
 pub enum Reply<T> {
     // A combination of the held columns, of this value.
     Fixed(T),

@@ -1,5 +1,5 @@
 // What is said of a column offered.
-#[derive(Clone, Copy)]
+#[derive(Clone, Copy, Debug, PartialEq, Eq)]
 pub enum Verdict<T> {
     // Held from now on, at this place.
     Taken(usize),

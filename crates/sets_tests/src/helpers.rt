@@ -1,116 +1,94 @@
 // What the tests share.
+ghost use Rattle.std.specs.Prelude.{◌≡◌, length};
+
 use arithmetic::Arithmetic;
-use columns::{Chooser, Refusal};
+use columns::Chooser;
 use sets::{OpenSet, Reply, Verdict};
 use std::alloc::{AllocError, Global};
-use std::process::Abort;
 use std::test::Fail;
-
-// So many of one element.
-pub fn filled<T: Arithmetic>(heap: Global, element: T, count: usize) -> Result<Vec<T>, AllocError> {
-    let mut run = Vec::new(heap);
-    for _ in 0..count {
-        run.push(element)?;
-    }
-    Ok(run)
-}
 
 // A set of so many unknowns over just enough memory.
 pub fn new_set<T: Arithmetic>(heap: Global, unknowns: usize) -> Result<OpenSet<T>, AllocError> {
-    let memory = filled(
-        heap,
-        T::zero(),
-        unknowns.saturating_mul(unknowns.saturating_add(2)),
-    )?;
-    Ok(OpenSet::make(unknowns, memory))
+    let size = unknowns.saturating_mul(unknowns.saturating_add(2));
+    Ok(OpenSet::make(unknowns, vec![in heap; T::zero(); size]?))
 }
 
 // These numbers, brought in.
-pub fn brought<T: Arithmetic>(heap: Global, numbers: &[i32]) -> Result<Vec<T>, AllocError> {
-    let mut run = Vec::new(heap);
-    for n in numbers {
-        run.push(T::bring(*n))?;
-    }
-    Ok(run)
+fn brought<T: Arithmetic>(heap: Global, numbers: &[i32]) -> Result<Vec<T>, AllocError> {
+    numbers.iter().map(|n| T::bring(*n)).collect(heap)
 }
 
-pub fn check_codes<T: Arithmetic>(rt: &impl Abort, run: &[T], expected: &[u32]) {
-    assert_eq!(rt; run.len(), expected.len());
-    for (element, code) in run.iter().zip(expected.iter()) {
-        assert_eq!(rt; element.code(), *code);
+// The codes of a run.
+pub fn codes<T: Arithmetic, const N: usize>(run: &[T]) -> [u32; N]
+    requires { length run.now ≡ N }
+{
+    let mut codes = [0; N];
+    for (code, x) in codes.iter_mut().zip(run) {
+        *code = x.code();
     }
+    codes
 }
 
-// A verdict by its number, with the place or the value.
-pub fn told<T: Arithmetic>(verdict: Verdict<T>) -> (u8, u32) {
+// The verdict, with its value's code.
+fn verdict_in_code<T: Arithmetic>(verdict: Verdict<T>) -> Verdict<u32> {
     match verdict {
-        Verdict::Taken(place) => (0, (place & 0xff) as u32),
-        Verdict::Redundant => (1, 0),
-        Verdict::Clash(value) => (2, value.code()),
+        Verdict::Taken(place) => Verdict::Taken(place),
+        Verdict::Redundant => Verdict::Redundant,
+        Verdict::Clash(value) => Verdict::Clash(value.code()),
     }
 }
 
-// A value where the query is fixed.
-pub fn fixed<T: Arithmetic>(reply: Reply<T>) -> Option<u32> {
+// The reply, with its value's code.
+fn reply_in_code<T: Arithmetic>(reply: Reply<T>) -> Reply<u32> {
     match reply {
-        Reply::Fixed(value) => Some(value.code()),
-        Reply::Free => None,
+        Reply::Fixed(value) => Reply::Fixed(value.code()),
+        Reply::Free => Reply::Free,
     }
 }
 
-// Offers a dimension, and checks the verdict and the answer run, which holds 7s before.
-pub fn offered<T: Arithmetic, C: Chooser>(
-    rt: &impl Abort,
+// A set under a chooser. It is told whole numbers, which are brought in, and answers in codes. Each answer run holds 7s before.
+#[derive(Drop)]
+pub struct Scheme<T, C> {
     heap: Global,
-    set: &mut OpenSet<T>,
-    chooser: &C,
-    column: &[i32],
-    target: i32,
-    verdict: (u8, u32),
-    answer: &[u32],
-) -> Result<(), Fail> {
-    let column = brought::<T>(heap, column)?;
-    let mut run = filled(heap, T::bring(7), column.len())?;
-    let got = set.offer(
-        column.as_slice(),
-        T::bring(target),
-        run.as_mut_slice(),
-        chooser,
-    )?;
-    assert_eq!(rt; told(got), verdict);
-    check_codes(rt, run.as_slice(), answer);
-    Ok(())
+    pub set: OpenSet<T>,
+    chooser: C,
 }
 
-// Enquires, and checks the reply and the answer run.
-pub fn enquired<T: Arithmetic>(
-    rt: &impl Abort,
-    heap: Global,
-    set: &OpenSet<T>,
-    query: &[i32],
-    value: Option<u32>,
-    answer: &[u32],
-) -> Result<(), Fail> {
-    let query = brought::<T>(heap, query)?;
-    let mut run = filled(heap, T::bring(7), query.len())?;
-    let got = set.enquire(query.as_slice(), run.as_mut_slice())?;
-    assert_eq!(rt; fixed(got), value);
-    check_codes(rt, run.as_slice(), answer);
-    Ok(())
-}
+impl<T: Arithmetic, C: Chooser + Drop> Scheme<T, C> {
+    pub fn new(heap: Global, unknowns: usize, chooser: C) -> Result<Scheme<T, C>, AllocError> {
+        let set = new_set(heap, unknowns)?;
+        Ok(Scheme { heap, set, chooser })
+    }
 
-// Rebuilds a held column, and checks it and its target.
-pub fn rebuilt<T: Arithmetic>(
-    rt: &impl Abort,
-    heap: Global,
-    set: &OpenSet<T>,
-    place: usize,
-    column: &[u32],
-    target: u32,
-) -> Result<(), Fail> {
-    let mut run = filled(heap, T::bring(7), column.len())?;
-    let got = set.rebuild(place, run.as_mut_slice())?;
-    assert_eq!(rt; got.code(), target);
-    check_codes(rt, run.as_slice(), column);
-    Ok(())
+    // The verdict on a dimension, and the answer run.
+    pub fn offer<const N: usize>(
+        &mut self,
+        column: [i32; N],
+        target: i32,
+    ) -> Result<(Verdict<u32>, [u32; N]), Fail> {
+        let column = brought::<T>(self.heap, &column)?;
+        let mut answer = vec![in self.heap; T::bring(7); N]?;
+        let verdict = self.set.offer(
+            column.as_slice(),
+            T::bring(target),
+            answer.as_mut_slice(),
+            &self.chooser,
+        )?;
+        Ok((verdict_in_code(verdict), codes(answer.as_slice())))
+    }
+
+    // The reply to a query, and the answer run.
+    pub fn enquire<const N: usize>(&self, query: [i32; N]) -> Result<(Reply<u32>, [u32; N]), Fail> {
+        let query = brought::<T>(self.heap, &query)?;
+        let mut answer = vec![in self.heap; T::bring(7); N]?;
+        let reply = self.set.enquire(query.as_slice(), answer.as_mut_slice())?;
+        Ok((reply_in_code(reply), codes(answer.as_slice())))
+    }
+
+    // The column held at a place, and its target.
+    pub fn rebuild<const N: usize>(&self, place: usize) -> Result<([u32; N], u32), Fail> {
+        let mut column = vec![in self.heap; T::bring(7); N]?;
+        let target = self.set.rebuild(place, column.as_mut_slice())?;
+        Ok((codes(column.as_slice()), target.code()))
+    }
 }

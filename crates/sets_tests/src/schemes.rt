@@ -1,168 +1,62 @@
 // Small schemes, judged under every chooser.
-use crate::helpers::{enquired, new_set, offered, rebuilt};
+use crate::helpers::Scheme;
 use arithmetic::{Parity, Residue};
 use columns::{Chooser, Greatest, KeepFree, Topmost};
-use std::alloc::Global;
+use sets::Reply::{Fixed, Free};
+use sets::Verdict::{Clash, Redundant, Taken};
 use std::process::Abort;
 use std::test::Fail;
 
 // Three faces a, b, c: a - b = -25, b - c = -15, so a - c = -40.
-fn three_faces<C: Chooser>(rt: &impl Abort, heap: Global, chooser: &C) -> Result<(), Fail> {
-    let mut set = new_set::<Residue>(heap, 3)?;
-    offered(
-        rt,
-        heap,
-        &mut set,
-        chooser,
-        &[1, -1, 0],
-        -25,
-        (0, 0),
-        &[7, 7, 7],
-    )?;
-    offered(
-        rt,
-        heap,
-        &mut set,
-        chooser,
-        &[0, 1, -1],
-        -15,
-        (0, 1),
-        &[7, 7, 7],
-    )?;
-    offered(
-        rt,
-        heap,
-        &mut set,
-        chooser,
-        &[1, 0, -1],
-        -40,
-        (1, 0),
-        &[1, 1, 0],
-    )?;
-    offered(
-        rt,
-        heap,
-        &mut set,
-        chooser,
-        &[1, 0, -1],
-        -41,
-        (2, 65439),
-        &[1, 1, 0],
-    )?;
-    enquired(rt, heap, &set, &[1, 0, -1], Some(65439), &[1, 1, 0])?;
-    enquired(rt, heap, &set, &[0, 0, 1], None, &[1, 1, 1])?;
-    offered(
-        rt,
-        heap,
-        &mut set,
-        chooser,
-        &[1, 0, 0],
-        10,
-        (0, 2),
-        &[7, 7, 7],
-    )?;
-    enquired(rt, heap, &set, &[0, 0, 1], Some(50), &[65478, 65478, 1])?;
-    rebuilt(rt, heap, &set, 0, &[1, 65478, 0], 65454)?;
-    rebuilt(rt, heap, &set, 1, &[0, 1, 65478], 65464)?;
-    rebuilt(rt, heap, &set, 2, &[1, 0, 0], 10)
+fn three_faces<C: Chooser + Drop>(rt: &(impl Abort + AllocGlobal), chooser: C) -> Result<(), Fail> {
+    let mut faces = Scheme::<Residue, _>::new(rt.alloc(), 3, chooser)?;
+    assert_eq!(rt; faces.offer([1, -1, 0], -25)?, (Taken(0), [7, 7, 7]));
+    assert_eq!(rt; faces.offer([0, 1, -1], -15)?, (Taken(1), [7, 7, 7]));
+    assert_eq!(rt; faces.offer([1, 0, -1], -40)?, (Redundant, [1, 1, 0]));
+    assert_eq!(rt; faces.offer([1, 0, -1], -41)?, (Clash(65439), [1, 1, 0]));
+    assert_eq!(rt; faces.enquire([1, 0, -1])?, (Fixed(65439), [1, 1, 0]));
+    assert_eq!(rt; faces.enquire([0, 0, 1])?, (Free, [1, 1, 1]));
+    assert_eq!(rt; faces.offer([1, 0, 0], 10)?, (Taken(2), [7, 7, 7]));
+    assert_eq!(rt; faces.enquire([0, 0, 1])?, (Fixed(50), [65478, 65478, 1]));
+    assert_eq!(rt; faces.rebuild(0)?, ([1, 65478, 0], 65454));
+    assert_eq!(rt; faces.rebuild(1)?, ([0, 1, 65478], 65464));
+    assert_eq!(rt; faces.rebuild(2)?, ([1, 0, 0], 10));
+    Ok(())
 }
 
 #[test]
 fn three_faces_under_every_chooser(rt: HostRuntime) -> Result<(), Fail> {
-    three_faces(&rt, rt.alloc(), &Topmost)?;
-    three_faces(&rt, rt.alloc(), &Greatest)?;
+    three_faces(&rt, Topmost)?;
+    three_faces(&rt, Greatest)?;
     let mut keep_free = KeepFree::over(Greatest);
     keep_free.mark(0);
-    three_faces(&rt, rt.alloc(), &keep_free)
+    three_faces(&rt, keep_free)
 }
 
 // Columns whose rows change places: the second and third by topmost, too.
 #[test]
 fn columns_rebuilt_after_exchanges(rt: HostRuntime) -> Result<(), Fail> {
-    let heap = rt.alloc();
-    let mut set = new_set::<Residue>(heap, 3)?;
-    offered(
-        &rt,
-        heap,
-        &mut set,
-        &Topmost,
-        &[0, 0, 2],
-        1,
-        (0, 0),
-        &[7, 7, 7],
-    )?;
-    offered(
-        &rt,
-        heap,
-        &mut set,
-        &Topmost,
-        &[0, 3, 5],
-        2,
-        (0, 1),
-        &[7, 7, 7],
-    )?;
-    assert_eq!(rt; set.pivot(0), Some(2));
-    offered(
-        &rt,
-        heap,
-        &mut set,
-        &Topmost,
-        &[4, 1, 6],
-        3,
-        (0, 2),
-        &[7, 7, 7],
-    )?;
-    assert_eq!(rt; set.held(), 3);
-    assert_eq!(rt; set.pivot(3), None);
-    rebuilt(&rt, heap, &set, 0, &[0, 0, 2], 1)?;
-    rebuilt(&rt, heap, &set, 1, &[0, 3, 5], 2)?;
-    rebuilt(&rt, heap, &set, 2, &[4, 1, 6], 3)
+    let mut scheme = Scheme::<Residue, _>::new(rt.alloc(), 3, Topmost)?;
+    assert_eq!(rt; scheme.offer([0, 0, 2], 1)?, (Taken(0), [7, 7, 7]));
+    assert_eq!(rt; scheme.offer([0, 3, 5], 2)?, (Taken(1), [7, 7, 7]));
+    assert_eq!(rt; scheme.set.pivot(0), Some(2));
+    assert_eq!(rt; scheme.offer([4, 1, 6], 3)?, (Taken(2), [7, 7, 7]));
+    assert_eq!(rt; scheme.set.held(), 3);
+    assert_eq!(rt; scheme.set.pivot(3), None);
+    assert_eq!(rt; scheme.rebuild(0)?, ([0, 0, 2], 1));
+    assert_eq!(rt; scheme.rebuild(1)?, ([0, 3, 5], 2));
+    assert_eq!(rt; scheme.rebuild(2)?, ([4, 1, 6], 3));
+    Ok(())
 }
 
 #[test]
 fn the_same_columns_by_parity(rt: HostRuntime) -> Result<(), Fail> {
-    let heap = rt.alloc();
-    let mut set = new_set::<Parity>(heap, 3)?;
-    offered(
-        &rt,
-        heap,
-        &mut set,
-        &Greatest,
-        &[3, -3, 6],
-        0,
-        (0, 0),
-        &[1, 1, 1],
-    )?;
-    offered(
-        &rt,
-        heap,
-        &mut set,
-        &Greatest,
-        &[-1, 3, 0],
-        0,
-        (1, 0),
-        &[1, 0, 0],
-    )?;
-    offered(
-        &rt,
-        heap,
-        &mut set,
-        &Greatest,
-        &[-1, 3, 0],
-        1,
-        (2, 0),
-        &[1, 0, 0],
-    )?;
-    offered(
-        &rt,
-        heap,
-        &mut set,
-        &Greatest,
-        &[2, -1, 4],
-        0,
-        (0, 1),
-        &[1, 1, 1],
-    )?;
-    enquired(&rt, heap, &set, &[1, 0, 0], Some(0), &[1, 1, 0])?;
-    enquired(&rt, heap, &set, &[0, 0, 1], None, &[0, 0, 1])
+    let mut scheme = Scheme::<Parity, _>::new(rt.alloc(), 3, Greatest)?;
+    assert_eq!(rt; scheme.offer([3, -3, 6], 0)?, (Taken(0), [1, 1, 1]));
+    assert_eq!(rt; scheme.offer([-1, 3, 0], 0)?, (Redundant, [1, 0, 0]));
+    assert_eq!(rt; scheme.offer([-1, 3, 0], 1)?, (Clash(0), [1, 0, 0]));
+    assert_eq!(rt; scheme.offer([2, -1, 4], 0)?, (Taken(1), [1, 1, 1]));
+    assert_eq!(rt; scheme.enquire([1, 0, 0])?, (Fixed(0), [1, 1, 0]));
+    assert_eq!(rt; scheme.enquire([0, 0, 1])?, (Free, [0, 0, 1]));
+    Ok(())
 }

@@ -3,16 +3,16 @@
 
 mod chain;
 mod elimination;
+mod faces;
 mod scheme;
 
 use arithmetic::{Arithmetic, Parity, Residue};
 use chain::{chained, closes};
 use columns::{Chooser, Greatest, KeepFree, Topmost};
 use elimination::{Column, eliminated};
+use faces::{FACES, Face};
 use scheme::judge_scheme;
 use std::io;
-
-const FACES: [&str; 5] = ["seat", "shoulder", "flange", "groove", "end face"];
 
 // From each face to the next, in hundredths of a millimetre.
 const CHAIN: [i32; 4] = [1840, 2215, 340, 1130];
@@ -22,12 +22,13 @@ const CLOSING: i32 = 5525;
 
 fn main(rt: HostRuntime) -> io::Result<()> {
     println!(rt; "A valve body: faces along one axis, lengths in hundredths of a millimetre.")?;
-    for i in 0..4 {
-        println!(rt; "  {} to {}: {}", FACES[i], FACES[i + 1], CHAIN[i])?;
+    for ([from, to], length) in FACES.array_windows::<2>().zip(&CHAIN) {
+        println!(rt; "  {from} to {to}: {length}")?;
     }
     println!(rt;
-        "  {} to {}: {} closes the chain",
-        FACES[0], FACES[4], CLOSING
+        "  {} to {}: {CLOSING} closes the chain",
+        Face::Seat,
+        Face::EndFace
     )?;
     close_the_chain(&rt)?;
     eliminate_by_hand(&rt)?;
@@ -66,8 +67,8 @@ fn judge<T: Arithmetic>(rt: &HostRuntime, closing: i32) -> io::Result<()> {
 
 // "Seat to shoulder" is held; "flange to seat" is worked by it, and each chooser picks from what is left.
 fn eliminate_by_hand(rt: &HostRuntime) -> io::Result<()> {
-    let held = [Residue::bring(-1), Residue::bring(-1), Residue::zero()];
-    let column = [Residue::one(), Residue::zero(), Residue::bring(-1)];
+    let held = [-1, -1, 0].map(Residue::bring);
+    let column = [1, 0, -1].map(Residue::bring);
     println!(rt)?;
     println!(rt;
         "One dimension worked by another. Unknowns: seat, shoulder, flange; 65478 stands for -1."
@@ -81,30 +82,28 @@ fn eliminate_by_hand(rt: &HostRuntime) -> io::Result<()> {
     println!(rt;
         "  What is left of it stands beside the shoulder and the flange. As the next pivot,"
     )?;
-    let codes = [worked[1].code(), worked[2].code()];
+    let [_, shoulder, flange] = worked.map(Residue::code);
+    let rest = [shoulder, flange];
     let mut keep_free = KeepFree::over(Greatest);
     keep_free.mark(2);
-    show_pick(rt, "topmost", Topmost.choose(&codes, &[1, 2]))?;
-    show_pick(rt, "greatest", Greatest.choose(&codes, &[1, 2]))?;
-    show_pick(
-        rt,
-        "greatest, the flange kept free,",
-        keep_free.choose(&codes, &[1, 2]),
-    )
+    show_pick(rt, "topmost", &Topmost, &rest)?;
+    show_pick(rt, "greatest", &Greatest, &rest)?;
+    show_pick(rt, "greatest, the flange kept free,", &keep_free, &rest)
 }
 
 fn show(rt: &HostRuntime, name: &str, column: &Column) -> io::Result<()> {
-    let [seat, shoulder, flange] = column;
-    println!(rt;
-        "  {name}: {}, {}, {}",
-        seat.code(),
-        shoulder.code(),
-        flange.code()
-    )
+    let [seat, shoulder, flange] = column.map(Residue::code);
+    println!(rt; "  {name}: {seat}, {shoulder}, {flange}")
 }
 
-fn show_pick(rt: &HostRuntime, name: &str, pick: Option<usize>) -> io::Result<()> {
-    let face = match pick {
+// What a chooser picks of the codes beside the shoulder and the flange.
+fn show_pick(
+    rt: &HostRuntime,
+    name: &str,
+    chooser: &impl Chooser,
+    rest: &[u32; 2],
+) -> io::Result<()> {
+    let face = match chooser.choose(rest, &[1, 2]) {
         Some(0) => "the shoulder",
         Some(1) => "the flange",
         _ => "none",

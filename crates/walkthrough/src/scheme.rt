@@ -1,160 +1,128 @@
 // The valve body's scheme, judged dimension by dimension.
+use crate::faces::FACES;
+use crate::faces::Face::{self, EndFace, Flange, Groove, Seat, Shoulder};
 use arithmetic::{Arithmetic, Residue, is_zero};
 use columns::Greatest;
 use sets::{OpenSet, Reply, Verdict};
-use std::io;
-
-const FACES: [&str; 5] = ["seat", "shoulder", "flange", "groove", "end face"];
+use std::{fmt, io};
 
 // How far one face lies from another, in hundredths of a millimetre.
 #[derive(Clone, Copy)]
 struct Dimension {
-    name: &'static str,
-    from: usize,
-    to: usize,
+    from: Face,
+    to: Face,
     length: i32,
 }
 
-const SCHEME: [Dimension; 7] = [
-    Dimension {
-        name: "seat to shoulder",
-        from: 0,
-        to: 1,
-        length: 1840,
-    },
-    Dimension {
-        name: "shoulder to flange",
-        from: 1,
-        to: 2,
-        length: 2215,
-    },
-    Dimension {
-        name: "flange to groove",
-        from: 2,
-        to: 3,
-        length: 340,
-    },
-    Dimension {
-        name: "shoulder to groove",
-        from: 1,
-        to: 3,
-        length: 2555,
-    },
-    Dimension {
-        name: "groove to end face",
-        from: 3,
-        to: 4,
-        length: 1130,
-    },
-    Dimension {
-        name: "seat to end face",
-        from: 0,
-        to: 4,
-        length: 5525,
-    },
-    Dimension {
-        name: "end face to flange",
-        from: 4,
-        to: 2,
-        length: -1471,
-    },
+impl fmt::Display for Dimension {
+    fn fmt<W: fmt::Write>(&self, f: &mut fmt::Formatter<W>) -> fmt::Result {
+        let Dimension { from, to, .. } = self;
+        write!(f, "{from} to {to}")
+    }
+}
+
+// From, to, and how far.
+const SCHEME: [(Face, Face, i32); 7] = [
+    (Seat, Shoulder, 1840),
+    (Shoulder, Flange, 2215),
+    (Flange, Groove, 340),
+    (Shoulder, Groove, 2555),
+    (Groove, EndFace, 1130),
+    (Seat, EndFace, 5525),
+    (EndFace, Flange, -1471),
 ];
 
 // One unknown for each face: minus one where it starts, one where it ends.
-fn column_of(from: usize, to: usize) -> [Residue; 5] {
-    let mut column = [Residue(0); 5];
-    if from < 5 && to < 5 {
-        column[from] = Residue::bring(-1);
-        column[to] = Residue(1);
-    }
-    column
+fn column_of(from: Face, to: Face) -> [Residue; 5] {
+    FACES.map(|face| {
+        if face == to {
+            Residue(1)
+        } else if face == from {
+            Residue::bring(-1)
+        } else {
+            Residue(0)
+        }
+    })
 }
 
 // Judges the scheme, and asks what it settles.
 pub fn judge_scheme(rt: &HostRuntime) -> io::Result<()> {
     println!(rt)?;
     println!(rt; "The scheme, dimension by dimension; 65478 stands for -1:")?;
-    let memory = vec![in rt.alloc(); Residue(0); 35]?;
-    let mut set = OpenSet::make(5, memory);
-    let mut held = [""; 5];
-    for dimension in SCHEME {
-        judge_one(rt, &mut set, &mut held, dimension)?;
+    let mut drawing = Drawing {
+        set: OpenSet::make(5, vec![in rt.alloc(); Residue(0); 35]?),
+        held: Vec::new(rt.alloc()),
+    };
+    for (from, to, length) in SCHEME {
+        drawing.judge(rt, Dimension { from, to, length })?;
     }
     println!(rt; "What it settles:")?;
-    ask(
-        rt,
-        &set,
-        &held,
-        "from the shoulder to the end face",
-        &column_of(1, 4),
-    )?;
-    let flange = [Residue(0), Residue(0), Residue(1), Residue(0), Residue(0)];
-    ask(rt, &set, &held, "the flange in space", &flange)
+    let to_the_end = column_of(Shoulder, EndFace);
+    drawing.ask(rt, "from the shoulder to the end face", &to_the_end)?;
+    drawing.ask(rt, "the flange in space", &[0, 0, 1, 0, 0].map(Residue))
 }
 
-fn judge_one(
-    rt: &HostRuntime,
-    set: &mut OpenSet<Residue>,
-    held: &mut [&'static str; 5],
-    dimension: Dimension,
-) -> io::Result<()> {
-    let column = column_of(dimension.from, dimension.to);
-    let name = dimension.name;
-    let length = dimension.length;
-    let mut answer = [Residue(0); 5];
-    match set.offer(&column, Residue::bring(length), &mut answer, &Greatest) {
-        Ok(Verdict::Taken(place)) => {
-            if place < 5 {
-                held[place] = name;
+// The set that judges, and the dimensions that it holds, in their places.
+#[derive(Drop)]
+struct Drawing {
+    set: OpenSet<Residue>,
+    held: Vec<Dimension>,
+}
+
+impl Drawing {
+    fn judge(&mut self, rt: &HostRuntime, dimension: Dimension) -> io::Result<()> {
+        let Dimension { from, to, length } = dimension;
+        let target = Residue::bring(length);
+        let mut answer = [Residue(0); 5];
+        let verdict = self
+            .set
+            .offer(&column_of(from, to), target, &mut answer, &Greatest);
+        match verdict {
+            Ok(Verdict::Taken(_)) => {
+                self.held.push(dimension)?;
+                println!(rt; "  {dimension} {length}: taken")
             }
-            println!(rt; "  {name} {length}: taken")
+            Ok(Verdict::Redundant) => {
+                println!(rt; "  {dimension} {length}: redundant, for it is")?;
+                show_parts(rt, &self.held, &answer)
+            }
+            Ok(Verdict::Clash(value)) => {
+                println!(rt;
+                    "  {dimension} {length}: a clash, for the code is {} by",
+                    value.code()
+                )?;
+                show_parts(rt, &self.held, &answer)
+            }
+            Err(refusal) => println!(rt; "  {dimension}: refused, {}", refusal.number()),
         }
-        Ok(Verdict::Redundant) => {
-            println!(rt; "  {name} {length}: redundant, for it is")?;
-            show_parts(rt, held, &answer)
+    }
+
+    fn ask(&self, rt: &HostRuntime, name: &str, query: &[Residue; 5]) -> io::Result<()> {
+        let mut answer = [Residue(0); 5];
+        match self.set.enquire(query, &mut answer) {
+            Ok(Reply::Fixed(value)) => {
+                println!(rt; "  {name}: fixed at {}, which is", value.code())?;
+                show_parts(rt, &self.held, &answer)
+            }
+            Ok(Reply::Free) => {
+                println!(rt; "  {name}: free. Faces that move with it, and by how much:")?;
+                show_parts(rt, &FACES, &answer)
+            }
+            Err(refusal) => println!(rt; "  {name}: refused, {}", refusal.number()),
         }
-        Ok(Verdict::Clash(value)) => {
-            println!(rt;
-                "  {name} {length}: a clash, for the code is {} by",
-                value.code()
-            )?;
-            show_parts(rt, held, &answer)
-        }
-        Err(refusal) => println!(rt; "  {name}: refused, {}", refusal.number()),
     }
 }
 
-// The dimensions of a combination, with their factors.
-fn show_parts(
+// The parts of a combination, with their factors.
+fn show_parts<P: fmt::Display>(
     rt: &HostRuntime,
-    held: &[&'static str; 5],
+    parts: &[P],
     combination: &[Residue; 5],
 ) -> io::Result<()> {
-    for (factor, name) in combination.iter().zip(held.iter()) {
+    for (factor, part) in combination.iter().zip(parts) {
         if !is_zero(*factor) {
-            println!(rt; "    {} times {name}", factor.code())?;
+            println!(rt; "    {} times {part}", factor.code())?;
         }
     }
     Ok(())
-}
-
-fn ask(
-    rt: &HostRuntime,
-    set: &OpenSet<Residue>,
-    held: &[&'static str; 5],
-    name: &str,
-    query: &[Residue; 5],
-) -> io::Result<()> {
-    let mut answer = [Residue(0); 5];
-    match set.enquire(query, &mut answer) {
-        Ok(Reply::Fixed(value)) => {
-            println!(rt; "  {name}: fixed at {}, which is", value.code())?;
-            show_parts(rt, held, &answer)
-        }
-        Ok(Reply::Free) => {
-            println!(rt; "  {name}: free. Faces that move with it, and by how much:")?;
-            show_parts(rt, &FACES, &answer)
-        }
-        Err(refusal) => println!(rt; "  {name}: refused, {}", refusal.number()),
-    }
 }
