@@ -146,9 +146,6 @@ pub record Upto {X : Type 0} (h : ℕ) (Becomes : List X → List X → Type 0) 
   pub rest : (k : ℕ) → j ≤ k → column_of h xs k ≡ column_of h start k
 
 module _ {X : Type 0} (h : ℕ) (Becomes : List X → List X → Type 0) (start : List X) where
-  pub upto_none : Upto h Becomes start start 0
-  upto_none = record { same = refl; done = λ k l. absurd (omega arith); rest = λ k l. refl }
-
   -- column j, lent out and given back as ys
   pub upto_more : (xs ys : List X) (j e : ℕ) → e ≡ j * h + h → e ≤ length xs → length ys ≡ length (take (e - j * h) (drop (j * h) xs))
       → Upto h Becomes start xs j → Becomes (take (e - j * h) (drop (j * h) xs)) ys → Upto h Becomes start (put_mid (j * h) (e - j * h) xs ys) (j + 1)
@@ -171,7 +168,3 @@ module _ {X : Type 0} (h : ℕ) (Becomes : List X → List X → Type 0) (start 
 
       high : length ys ≡ h
       high = long ∙ ap length part ∙ length-take-le h (drop (j * h) xs) (omega (arith, length-drop (j * h) xs))
-
-  -- all columns
-  pub upto_all : (xs : List X) (n j : ℕ) → n ≡ length start / h → n ≤ j → Upto h Becomes start xs j → EachColumn h Becomes start xs
-  upto_all xs n j e past u k l = u.done k (omega arith)

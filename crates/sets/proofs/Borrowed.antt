@@ -3,7 +3,7 @@ use Rattle.std.proofs.Common.{◌≡◌, ℕ, ◌-◌, ◌≤◌, List, length, 
 use borrow.Rule.Slice.PartMut.{put_mid, same_len_mid}
 use Rattle.std.specs.Vec.{with_items}
 use Rattle.std.proofs.lemmas.List.{with_items_is}
-use Rattle.std.proofs.lemmas.Slice.{take-put_mid, drop-put_mid}
+use Rattle.std.proofs.lemmas.Slice.{take-put_mid}
 
 module _ {X Z : Type 0} (v : Vec X Z) (xs ys : List X) (n : ℕ) (is : xs ≡ v.items) (long : length xs ≡ v.len) (same : length ys ≡ length (take (n - 0) (drop 0 xs))) (room : n ≤ length xs) where
   whole : length ys ≡ n

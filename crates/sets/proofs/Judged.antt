@@ -1,13 +1,12 @@
 -- What working and taking a column in a set's slots make of its state.
-use Rattle.std.proofs.Common.{◌≡◌, ℕ, ◌+◌, ◌*◌, ◌<◌, ◌≤◌, List, length, take, set, sym, ap, ◌∙◌, arith, get_or-set_other, get_or-set_same, below_more}
+use Rattle.std.proofs.Common.{◌≡◌, ℕ, ◌+◌, ◌*◌, ◌<◌, ◌≤◌, List, length, take, set, sym, ap, ◌∙◌, arith}
 use Rattle.arithmetic.specs.Fields.{Field}
 use Rattle.columns.specs.Swaps.{put, exchange}
 use Rattle.columns.specs.Factors.{worked}
-use Rattle.columns.specs.Panels.{cells, offsets}
+use Rattle.columns.specs.Panels.{cells}
 use Rattle.columns.proofs.Places.{put_at, put_off}
 use Rattle.sets.specs.States.{State, taken_at}
 use Rattle.sets.specs.Memory.{packed, stored}
-use Rattle.sets.specs.Pivots.{PivotsWithin}
 use Rattle.sets.specs.Workings.{divided_below}
 use Rattle.sets.proofs.Stores.{stored_packed, stored_same, slot_front, stored_front, stored_taken}
 

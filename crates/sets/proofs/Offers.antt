@@ -1,20 +1,17 @@
 -- An offer, from what its steps tell.
-use Rattle.std.proofs.Common.{◌≡◌, ℕ, ◌+◌, ◌-◌, ◌<◌, ◌≤◌, List, length, Some, None, vec_items, Option, sym, ap, ◌∙◌, ap₂, arith}
+use Rattle.std.proofs.Common.{◌≡◌, ℕ, ◌+◌, ◌-◌, ◌<◌, ◌≤◌, List, length, Some, None, vec_items, sym, ap, ◌∙◌, ap₂, arith}
 use native.Mathlib.Decide.{ℕ_discrete}
-use Rattle.std.proofs.lemmas.Bool.Decides.{nat_tests}
 use Rattle.std.proofs.lemmas.Option.{MatchOption-at_some}
 use Rattle.arithmetic.specs.Fields.{Field, Lawful}
 use Rattle.arithmetic.specs.Runs.{row}
 use Rattle.columns.specs.Swaps.{choose}
 use Rattle.columns.specs.Picks.{Pick, LawfulPick, AllZero, NonzeroAt}
 use Rattle.columns.specs.Factors.{worked, combination}
-use Rattle.columns.specs.declared.refusal.Refusal.{Refusal}
 use Rattle.columns.proofs.Places.{choose_yes, choose_no}
 use Rattle.columns.proofs.Panels.{row_past}
 use Rattle.sets.specs.States.{State, Verdict as Judged, codes, unknowns_in_rows, picked, value_of, repeated, taken_at, decided, offered}
 use Rattle.sets.specs.States.Verdict.{taken, redundant, clash}
 use Rattle.sets.specs.Histories.Step.{offering}
-use Rattle.sets.specs.Refused.{offer_refusal}
 use Rattle.sets.specs.Sets.{Offered, Untouched, state, surplus, seen}
 use Rattle.sets.specs.declared.set.Set.{Set}
 use Rattle.sets.specs.declared.verdict.Verdict.{Verdict}

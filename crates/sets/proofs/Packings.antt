@@ -1,23 +1,21 @@
 -- What the memory's columns are to the packed factors.
-use Rattle.std.proofs.Common.{◌≡◌, ℕ, ◌+◌, ◌-◌, ◌*◌, ◌<◌, ◌≤◌, List, [], length, take, drop, get_or, sym, ap, ◌∙◌, mul-le-mul_right, mul_comm, arith}
+use Rattle.std.proofs.Common.{◌≡◌, ℕ, ◌-◌, ◌*◌, ◌<◌, ◌≤◌, List, [], length, take, drop, get_or, sym, ap, ◌∙◌, mul-le-mul_right, arith}
 use mathlib.Core.Path.{fun_ext}
 use native.Mathlib.Decide.{dec_lt}
 use Rattle.std.proofs.lemmas.List.{length-take, length-take-le, length-drop, take-take}
 use Rattle.std.proofs.lemmas.Slice.{between_is}
 use Rattle.arithmetic.specs.Fields.{Field, Lawful}
-use Rattle.arithmetic.specs.Runs.{row, dot}
+use Rattle.arithmetic.specs.Runs.{row}
 use Rattle.arithmetic.proofs.Rows.{row_inside}
 use Rattle.columns.specs.Swaps.{joined, swapped}
 use Rattle.columns.specs.Factors.{worked}
 use Rattle.columns.specs.Panels.{column_of, cells, offsets, solved, reduced, Solves, Reduces}
 use Rattle.columns.proofs.Places.{joined_low, joined_high}
-use Rattle.columns.proofs.Sums.{total_cong}
 use Rattle.columns.proofs.Panels.{ends, row_past, cells_past}
 use Rattle.columns.proofs.Steps.{worked_by_the_workings, solves_none, reducing_none, reducing_all}
 use Rattle.sets.proofs.Parts.{joined_alike}
 use Rattle.sets.proofs.Runs.{row_take}
-use Rattle.sets.specs.States.{value_of}
-use Rattle.sets.specs.Memory.{packed, stored}
+use Rattle.sets.specs.Memory.{packed}
 
 -- a column before column r stands in the first r columns
 kept_column : {X : Type 0} (m r : ℕ) (memory : List X) (j : ℕ) → j < r → column_of m memory j ≡ column_of m (take (r * m) memory) j

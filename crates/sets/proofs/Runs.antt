@@ -2,13 +2,13 @@
 use Rattle.std.proofs.Common.{◌≡◌, ℕ, zero, suc, ◌+◌, ◌*◌, ◌/◌, ◌<◌, ◌≤◌, List, [], ◌∷◌, length, take, drop, set, Some, None, Option, sym, refl, ap, ◌∙◌, ap₂, subst₂, add-one, arith}
 use mathlib.Core.Path.{fun_ext}
 use native.Mathlib.Nat.{div_self}
-use native.Mathlib.Decide.{ℕ_discrete, dec_lt}
+use native.Mathlib.Decide.{ℕ_discrete}
 use Rattle.std.proofs.lemmas.List.{take_all, get_or-take, length-take-le}
 use Rattle.arithmetic.specs.Fields.{Field}
 use Rattle.arithmetic.specs.Runs.{row}
 use Rattle.columns.specs.Swaps.{put, joined, exchange, swapped, unswapped}
 use Rattle.columns.specs.Panels.{column_of, places, EachColumn, offsets, PivotsInside, Swaps, Unswaps}
-use Rattle.columns.proofs.Places.{put_at, put_off, joined_low, joined_high, joined_next}
+use Rattle.columns.proofs.Places.{joined_low, joined_high, joined_next}
 use Rattle.columns.proofs.Swaps.{swapped_alike, unswapped_alike}
 use Rattle.columns.proofs.Panels.{row_set}
 

@@ -45,9 +45,6 @@ module _ {K : Type 0} (F : Field K) where
       pub same : (i : ℕ) → i < k → y i ≡ g i
       pub left : settled F L m g k (joined k (λ i. 𝟘) y) ≡ settled F L m g r (joined r (λ i. 𝟘) g)
 
-    pub settling_none : Settling r g
-    settling_none = record { same = λ i l. refl; left = refl }
-
     settling_next : (n : ℕ) (y : ℕ → K) (d : K) → d ≡ dot F m (joined (suc n) (λ i. 𝟘) y) (L n) → Settling (suc n) y → Settling n (put n (y n ⊕ ⊖ d) y)
     unfolding settled
     settling_next n y d e s = record {

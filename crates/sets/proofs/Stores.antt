@@ -3,14 +3,13 @@ use Rattle.std.proofs.Common.{◌≡◌, ℕ, ◌+◌, ◌*◌, ◌<◌, ◌≤�
 use mathlib.Core.Path.{fun_ext}
 use native.Mathlib.Decide.{ℕ_discrete, dec_lt}
 use Rattle.arithmetic.specs.Fields.{Field}
-use Rattle.arithmetic.specs.Runs.{row, dot}
+use Rattle.arithmetic.specs.Runs.{row}
 use Rattle.columns.specs.Swaps.{put, joined, exchange}
 use Rattle.columns.specs.Factors.{turned, divided}
 use Rattle.columns.specs.Panels.{cells, offsets}
 use Rattle.columns.proofs.Places.{put_at, put_off, joined_low, joined_high}
-use Rattle.columns.proofs.Sums.{total_cong}
 use Rattle.columns.proofs.Panels.{row_past}
-use Rattle.sets.specs.States.{State, made, value_of, taken_at}
+use Rattle.sets.specs.States.{State, made, taken_at}
 use Rattle.sets.specs.Memory.{packed, stored}
 use Rattle.sets.specs.Workings.{divided_below}
 use Rattle.sets.proofs.Parts.{by_parts, joined_alike}

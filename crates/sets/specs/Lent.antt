@@ -1,5 +1,4 @@
 -- What a set lends to be read.
-use Rattle.std.specs.Prelude.{ℕ}
 use Rattle.arithmetic.specs.Fields.{Field}
 use Rattle.columns.specs.Factors.{Packed}
 use Rattle.sets.specs.Memory.{packed}

@@ -1,5 +1,5 @@
-use Rattle.std.proofs.Common.{◌≡◌, length, take, sym, ap, ◌∙◌, subst, arith}
-use Rattle.columns.specs.Panels.{EachColumn, PivotsInside, Swaps, swap_refusal}
+use Rattle.std.proofs.Common.{take, ap, ◌∙◌}
+use Rattle.columns.specs.Panels.{Swaps, swap_refusal}
 use Rattle.sets.specs.Memory.{packed}
 use Rattle.sets.proofs.Runs.{one_column, swaps_values, swaps_empty}
 use Rattle.sets.proofs.Accepted.{accepted, first_inside, swap_accepted}

@@ -1,5 +1,5 @@
-use Rattle.std.proofs.Common.{◌≡◌, length, take, sym, ap, ◌∙◌, subst, arith}
-use Rattle.columns.specs.Panels.{EachColumn, PivotsInside, Unswaps, swap_refusal}
+use Rattle.std.proofs.Common.{take, ap, ◌∙◌}
+use Rattle.columns.specs.Panels.{Unswaps, swap_refusal}
 use Rattle.sets.specs.Memory.{packed}
 use Rattle.sets.proofs.Runs.{one_column, unswaps_values, unswaps_empty}
 use Rattle.sets.proofs.Accepted.{accepted, first_inside, swap_accepted}

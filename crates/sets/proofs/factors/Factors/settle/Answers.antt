@@ -1,18 +1,12 @@
-use Rattle.std.proofs.Common.{◌+◌, ◌-◌, sym, ap, ◌∙◌, subst, arith}
+use Rattle.std.proofs.Common.{◌-◌, sym, ap, ◌∙◌, subst, arith}
 use Rattle.arithmetic.specs.Runs.{row}
 use Rattle.arithmetic.proofs.Rows.{row_inside}
 use Rattle.columns.specs.Swaps.{put}
 use Rattle.columns.specs.Factors.{lower}
 use Rattle.columns.proofs.Panels.{row_set}
 use Rattle.sets.specs.Lent.{lent}
-use Rattle.sets.proofs.Settlings.{Settling, settling_none, settling_less, settling_all, dot_lower}
+use Rattle.sets.proofs.Settlings.{Settling, settling_less, settling_all, dot_lower}
 use Rattle.sets.proofs.factors.Factors.settle.Goals as goal
-
-pub loop-k-init : goal.loop-k-init
-loop-k-init g c =
-    let F = g.T.Arithmetic.field.ops in
-    let s = c.args.self.now in
-    settling_none F (lower F (lent F g.T.Arithmetic.value s)) s.height (row F g.T.Arithmetic.value c.args.run.now) s.rank
 
 pub loop-k-preserved : goal.loop-k-preserved
 loop-k-preserved g c =

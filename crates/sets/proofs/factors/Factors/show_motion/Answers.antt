@@ -1,4 +1,4 @@
-use Rattle.std.proofs.Common.{ℕ, ◌+◌, set, sym, ap, ◌∙◌, ap₂, arith}
+use Rattle.std.proofs.Common.{ℕ, ◌+◌, sym, ap, ◌∙◌, ap₂, arith}
 use Rattle.arithmetic.specs.Runs.{row}
 use Rattle.arithmetic.proofs.Rows.{row_inside}
 use Rattle.columns.specs.Swaps.{put, joined}

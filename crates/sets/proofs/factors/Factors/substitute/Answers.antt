@@ -1,7 +1,7 @@
-use Rattle.std.proofs.Common.{◌≡◌, sym, refl, ap, ◌∙◌, ap₂, arith}
+use Rattle.std.proofs.Common.{◌≡◌, ap, ◌∙◌, ap₂, arith}
 use Rattle.arithmetic.specs.Runs.{row}
 use Rattle.columns.specs.Swaps.{put}
-use Rattle.columns.specs.Factors.{upper, front}
+use Rattle.columns.specs.Factors.{front}
 use Rattle.columns.specs.Panels.{cells}
 use Rattle.columns.proofs.Panels.{row_set}
 use Rattle.sets.specs.Workings.{front_entry}

@@ -1,4 +1,4 @@
-use Rattle.std.proofs.Common.{◌*◌, length, take, sym, refl, ap, ◌∙◌, arith}
+use Rattle.std.proofs.Common.{◌*◌, length, take, sym, ap, ◌∙◌, arith}
 use Rattle.std.proofs.lemmas.List.{length-take-le}
 use Rattle.arithmetic.specs.Runs.{row}
 use Rattle.columns.specs.Panels.{cells, solved, reduced, Solves, Reduces}

@@ -1,4 +1,4 @@
-use Rattle.std.proofs.Common.{◌≡◌, ℕ, ◌+◌, ◌-◌, ◌<◌, length, sym, ap, ◌∙◌, arith, below_more}
+use Rattle.std.proofs.Common.{◌≡◌, ℕ, ◌+◌, ◌-◌, sym, ap, ◌∙◌, arith, below_more}
 use native.Mathlib.Decide.{dec_lt}
 use Rattle.arithmetic.specs.Runs.{row}
 use Rattle.columns.proofs.Places.{put_at, put_off, joined_low, joined_high}

@@ -1,4 +1,4 @@
-use Rattle.std.proofs.Common.{◌≡◌, ℕ, ◌<◌, ◌≤◌, length}
+use Rattle.std.proofs.Common.{◌≡◌, ℕ, ◌<◌}
 use Rattle.arithmetic.specs.Runs.{row}
 use Rattle.sets.proofs.factors.working.clear.Given as goal
 

@@ -1,4 +1,4 @@
-use Rattle.std.proofs.Common.{◌≡◌, ℕ, ◌+◌, ◌-◌, ap, ◌∙◌, ap₂}
+use Rattle.std.proofs.Common.{◌+◌, ◌-◌, ap, ◌∙◌, ap₂}
 use Rattle.arithmetic.specs.Runs.{row}
 use Rattle.columns.specs.Factors.{Packed, worked, lead, combination, motion}
 use Rattle.sets.specs.Memory.{packed}

@@ -1,5 +1,4 @@
-use Rattle.std.proofs.Common.{◌≡◌, ℕ, ◌<◌, sym, ap, ◌∙◌, arith}
-use Rattle.arithmetic.specs.Runs.{row}
+use Rattle.std.proofs.Common.{ℕ, ◌<◌, sym, ap, ◌∙◌, arith}
 use Rattle.arithmetic.proofs.Rows.{row_inside}
 use Rattle.columns.specs.Factors.{rebuilt}
 use Rattle.sets.specs.Memory.{packed, stored}

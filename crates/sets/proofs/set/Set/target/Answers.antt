@@ -1,4 +1,4 @@
-use Rattle.std.proofs.Common.{ℕ, vec_items, sym, ap, ◌∙◌, arith}
+use Rattle.std.proofs.Common.{ℕ, sym, ap, ◌∙◌, arith}
 use Rattle.arithmetic.proofs.Rows.{row_inside}
 use Rattle.sets.proofs.Looked.{copied_found}
 use Rattle.sets.proofs.set.Set.target.Goals as goal

@@ -1,4 +1,4 @@
-use Rattle.std.proofs.Common.{◌≡◌, ◌+◌, ◌-◌, ◌*◌, take, drop, vec_items, ap, ◌∙◌, ap₂, arith}
+use Rattle.std.proofs.Common.{◌≡◌, ◌+◌, ◌-◌, ◌*◌, take, drop, vec_items, ◌∙◌, ap₂, arith}
 use Rattle.arithmetic.specs.Runs.{row}
 use Rattle.sets.proofs.Stores.{stored_targets}
 use Rattle.sets.proofs.set.Set.targets.Goals as goal

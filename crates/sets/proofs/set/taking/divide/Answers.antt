@@ -1,4 +1,4 @@
-use Rattle.std.proofs.Common.{◌≡◌, ℕ, ◌+◌, ◌-◌, ◌<◌, ◌≤◌, length, take, drop, sym, ap, ◌∙◌, ap₂, arith, below_more}
+use Rattle.std.proofs.Common.{◌≡◌, ℕ, ◌+◌, ◌-◌, length, sym, ap, ◌∙◌, ap₂, arith, below_more}
 use native.Mathlib.Decide.{dec_lt}
 use Rattle.arithmetic.specs.Runs.{row}
 use Rattle.arithmetic.proofs.Rows.{row_inside}

@@ -1,4 +1,4 @@
-use Rattle.std.proofs.Common.{◌≡◌, ◌+◌, ◌*◌, ◌<◌, ◌≤◌, length, ap, ◌∙◌, arith}
+use Rattle.std.proofs.Common.{◌≡◌, ap, ◌∙◌, arith}
 use Rattle.columns.specs.Swaps.{joined, exchange}
 use Rattle.columns.specs.Panels.{cells}
 use Rattle.columns.proofs.Panels.{ends}

@@ -1,5 +1,4 @@
-use Rattle.std.proofs.Common.{◌≡◌, ℕ, ◌+◌, ◌-◌, length, take, drop, vec_items, sym, ap, ◌∙◌, arith, rules}
-use Rattle.arithmetic.specs.Runs.{row}
+use Rattle.std.proofs.Common.{◌≡◌, ℕ, ◌+◌, ◌-◌, length, take, drop, ap, ◌∙◌, arith, rules}
 use Rattle.sets.specs.Memory.{packed, stored}
 use Rattle.sets.specs.Sets.{state, next_column}
 use Rattle.sets.proofs.Runs.{row_part}

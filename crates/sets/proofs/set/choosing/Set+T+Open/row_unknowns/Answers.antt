@@ -1,4 +1,4 @@
-use Rattle.std.proofs.Common.{◌≡◌, ℕ, ◌+◌, ◌<◌, ◌≤◌, length, take, ap, ◌∙◌, arith, rules}
+use Rattle.std.proofs.Common.{◌≡◌, ◌≤◌, length, take, ap, ◌∙◌, arith, rules}
 use Rattle.columns.specs.Swaps.{joined}
 use Rattle.columns.specs.Panels.{Swaps, offsets, swap_refusal}
 use Rattle.columns.proofs.Places.{joined_low}

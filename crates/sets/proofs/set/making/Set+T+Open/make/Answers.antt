@@ -1,4 +1,4 @@
-use Rattle.std.proofs.Common.{◌≡◌, [], sym, ◌∙◌, subst₂, arith}
+use Rattle.std.proofs.Common.{[], sym, subst₂, arith}
 use Rattle.sets.specs.Histories.{History}
 use Rattle.sets.specs.Histories.History.{making}
 use Rattle.sets.proofs.set.making.Set+T+Open.make.Goals as goal

@@ -1,9 +1,8 @@
-use Rattle.std.proofs.Common.{◌≡◌, ℕ, sym, ap, ◌∙◌, ap₂}
+use Rattle.std.proofs.Common.{ℕ, ap, ◌∙◌, ap₂}
 use Rattle.arithmetic.specs.Runs.{row}
 use Rattle.columns.specs.Factors.{combination}
-use Rattle.sets.specs.States.{State, repeated}
-use Rattle.sets.specs.States.Verdict.{redundant, clash}
-use Rattle.sets.specs.Sets.{state, next_column}
+use Rattle.sets.specs.States.{repeated}
+use Rattle.sets.specs.Sets.{state}
 use Rattle.sets.proofs.Offers.{repeated_redundant, repeated_clash}
 use Rattle.sets.proofs.set.offer.Set+T+Open.account.Goals as goal
 

@@ -1,5 +1,4 @@
-use Rattle.std.proofs.Common.{◌≡◌, ap, ◌∙◌, ap₂, arith}
-use Rattle.arithmetic.specs.Runs.{row}
+use Rattle.std.proofs.Common.{◌≡◌, ◌∙◌, ap₂, arith}
 use Rattle.columns.specs.Factors.{assignment}
 use Rattle.sets.specs.States.{solution}
 use Rattle.sets.specs.Memory.{packed, stored}
