@@ -3,6 +3,7 @@ use arithmetic::{Arithmetic, Residue};
 use columns::Refusal::{Length, Place};
 use columns::{Refusal, solve_panel, subtract_product, swap_panel, unswap_panel};
 use std::process::Abort;
+use std::test::Fail;
 
 #[test]
 fn swaps_refused(rt: HostRuntime) {
@@ -64,4 +65,25 @@ fn numbers(rt: HostRuntime) {
     for (refusal, number) in table {
         assert_eq!(rt; refusal.number(), number, "{refusal:?}");
     }
+}
+
+#[test]
+fn texts(rt: HostRuntime) -> Result<(), Fail> {
+    let table = [
+        (
+            Refusal::Unknowns,
+            "a set's number of unknowns is 0 or above 96",
+        ),
+        (Refusal::Memory, "a set's memory is too short"),
+        (
+            Refusal::LineEnd,
+            "a sheet is empty, or its last line has no end",
+        ),
+        (Refusal::Repeated, "a name was used before"),
+    ];
+    for (refusal, expected) in table {
+        let text = format!(in rt.alloc(); "{refusal}")?;
+        assert_eq!(rt; text.as_str(), expected);
+    }
+    Ok(())
 }
