@@ -7,7 +7,7 @@ mod laws;
 mod refusal;
 mod workings;
 
-pub use choosers::{Chooser, Greatest, Topmost};
+pub use choosers::{Chooser, Greatest, MOST, Topmost};
 pub use keep_free::KeepFree;
 pub use laws::theory_holds;
 pub use refusal::Refusal;

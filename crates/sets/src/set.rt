@@ -2,7 +2,7 @@
 ghost use Rattle.std.specs.Prelude.{◌+◌, ◌*◌, ◌≤◌, vec_len};
 ghost use Rattle.sets.specs.Pivots.{PivotsWithin};
 
-use columns::Refusal;
+use columns::{MOST, Refusal};
 
 mod asking;
 mod choosing;
@@ -12,14 +12,14 @@ mod reading;
 mod sealing;
 mod taking;
 
-// Whether columns may still be offered to a set.
+// Whether columns may still be offered to a set: `Open` or `Sealed`.
 pub trait Stage: Copy {}
 
-// They may.
+// Columns may still be offered.
 #[derive(Clone, Copy)]
 pub struct Open;
 
-// They may not, and a full set can be solved.
+// No more columns are offered, and a full set can be solved.
 #[derive(Clone, Copy)]
 pub struct Sealed;
 
@@ -33,7 +33,7 @@ pub struct Set<T, S: Stage> {
     memory: Vec<T>,
     unknowns: usize,
     held: usize,
-    pivots: [usize; 96],
+    pivots: [usize; MOST],
     refusal: Option<Refusal>,
     stage: S,
     ghost size: { unknowns ≤ 96 },

@@ -1,8 +1,9 @@
 // Sets that are refused, and calls that are.
-use crate::helpers::new_set;
+use crate::helpers::{Scheme, new_set};
 use arithmetic::{Arithmetic, Residue};
 use columns::{Refusal, Topmost};
 use sets::OpenSet;
+use sets::Verdict::Taken;
 use std::test::Fail;
 
 // Every call on a refused set gets its refusal, and the memory comes back as it was.
@@ -54,6 +55,19 @@ fn calls_refused(rt: HostRuntime) -> Result<(), Fail> {
     assert_eq!(rt; refusal, Some(Refusal::Place));
     assert_eq!(rt; set.held(), 0);
     assert_eq!(rt; answer.map(Residue::code), [7, 7, 7]);
+    Ok(())
+}
+
+#[test]
+fn held_after_a_refused_offer(rt: HostRuntime) -> Result<(), Fail> {
+    let mut scheme = Scheme::<Residue, _>::new(rt.alloc(), 2, Topmost)?;
+    assert_eq!(rt; scheme.offer([1, 2], 3)?, (Taken(0), [7, 7]));
+    let short = [Residue(1)];
+    let mut answer = [Residue(7); 2];
+    let refused = scheme.set.offer(&short, Residue(1), &mut answer, &Topmost);
+    assert_eq!(rt; refused.err(), Some(Refusal::Length));
+    assert_eq!(rt; scheme.set.held(), 1);
+    assert_eq!(rt; scheme.rebuild(0)?, ([1, 2], 3));
     Ok(())
 }
 

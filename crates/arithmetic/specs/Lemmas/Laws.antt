@@ -1,8 +1,15 @@
 -- What follows from the laws, in any field.
-use Rattle.std.specs.Prelude.{◌≡◌, zero, suc, ℤ, pos, negsuc, ◌+ℤ◌}
-use Rattle.std.proofs.Common.{sym, ap, ◌∙◌}
+use Rattle.std.specs.Prelude.{◌≡◌, zero, suc, Bool, true, false, ℤ, pos, negsuc, ◌+ℤ◌, ◌==◌, refl}
+use Rattle.std.proofs.Common.{sym, ap, ◌∙◌, eqb-true}
 use Rattle.std.proofs.Math.IntN.{suc_ℤ, pred_ℤ, suc-pred, +ℤ_one, +ℤ-suc_ℤ, +ℤ-pred_ℤ, +ℤ_idr}
-use Rattle.arithmetic.specs.Fields.{Field, Lawful, AllZero}
+use Rattle.std.proofs.lemmas.Bool.{eqb-false}
+use Rattle.arithmetic.specs.Fields.{Field, Lawful, SettledByCodes, AllZero}
+use Rattle.arithmetic.specs.Runs.{Tells}
+
+-- an answer tells a fact where each of its two values does
+tells_by : (b : Bool) (P : Type 0) → (b ≡ true → P) → (b ≡ false → ¬ P) → Tells b P
+tells_by true P y n = y refl
+tells_by false P y n = n refl
 
 module _ {K : Type 0} (F : Field K) (W : Lawful F) where
   infixl 65 ◌⊕◌
@@ -10,8 +17,20 @@ module _ {K : Type 0} (F : Field K) (W : Lawful F) where
   infix 80 ⊖◌
   open F use {zero as 𝟘, one as 𝟙, sum as ◌⊕◌, negative as ⊖◌, product as ◌⊙◌, inverse, bring, code}
 
+  pub settled_by_codes : SettledByCodes F
+  settled_by_codes = record {
+    sums = λ a b x y e d. let p = W.code_same a b e in let q = W.code_same x y d in cc;
+    negatives = λ a b e. let p = W.code_same a b e in cc;
+    products = λ a b x y e d. let p = W.code_same a b e in let q = W.code_same x y d in cc;
+    inverses = λ a b e. let p = W.code_same a b e in cc;
+  }
+
   pub not_all_zero : ¬ AllZero F
   not_all_zero all = W.apart (sym (all 𝟙))
+
+  -- a comparison of codes tells whether values are equal
+  pub codes_tell : (x y : K) → Tells (code x == code y) (x ≡ y)
+  codes_tell x y = tells_by (code x == code y) (x ≡ y) (λ t. W.code_same x y (eqb-true _ _ t)) (λ f e. eqb-false _ _ f (ap code e))
 
   pub zero_sum : (x : K) → 𝟘 ⊕ x ≡ x
   zero_sum x = W.sum_comm 𝟘 x ∙ W.sum_zero x

@@ -11,13 +11,21 @@ use arithmetic::Arithmetic;
 use columns::Refusal;
 
 impl<T: Arithmetic, S: Stage> Set<T, S> {
-    // Refuses runs that are not as long as there are unknowns; a refused set refuses all.
+    // Refuses all where the set itself was refused.
+    pub(super) fn accept_any(&self) -> Result<(), Refusal>
+        ensures { result_err result ≡ self.now.refusal }
+    {
+        match self.refusal {
+            Some(refusal) => Err(refusal),
+            None => Ok(()),
+        }
+    }
+
+    // Refuses runs that are not as long as there are unknowns.
     pub(super) fn accept(&self, first: usize, second: usize) -> Result<(), Refusal>
         ensures { result_err result ≡ offer_refusal self.now.refusal self.now.unknowns first second }
     {
-        if let Some(refusal) = self.refusal {
-            return Err(refusal);
-        }
+        self.accept_any()?;
         if first != self.unknowns || second != self.unknowns {
             return Err(Refusal::Length);
         }

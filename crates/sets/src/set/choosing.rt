@@ -7,23 +7,23 @@ ghost use Rattle.sets.specs.Sets.{state, next_column};
 
 use super::{Open, Set};
 use arithmetic::Arithmetic;
-use columns::{Chooser, swap_panel};
+use columns::{Chooser, MOST, swap_panel};
 
-fn codes_of<T: Arithmetic>(rest: &[T]) -> [u32; 96]
+fn codes_of<T: Arithmetic>(rest: &[T]) -> [u32; MOST]
     requires { length rest.now ≤ 96 }
     ensures { (k : ℕ) → k < length rest.now → slice_index result k ≡ T.field.ops.code (row T.field.ops T.value rest.now k) }
 {
-    let mut codes = [0; 96];
+    let mut codes = [0; MOST];
     for (i, x) in rest.iter().enumerate() {
         codes[i] = x.code();
     }
     codes
 }
 
-fn numbers() -> [usize; 96]
+fn numbers() -> [usize; MOST]
     ensures { (k : ℕ) → k < 96 → slice_index result k ≡ k }
 {
-    let mut rows = [0; 96];
+    let mut rows = [0; MOST];
     for (i, row) in rows.iter_mut().enumerate() {
         *row = i;
     }
@@ -32,11 +32,11 @@ fn numbers() -> [usize; 96]
 
 impl<T: Arithmetic> Set<T, Open> {
     // The unknown that stands in each row after the held columns' swaps.
-    fn row_unknowns(&self) -> [usize; 96]
+    fn row_unknowns(&self) -> [usize; MOST]
         ensures { (k : ℕ) → k < 96 → slice_index result k ≡ permuted (state T.field.ops T.value self.now).factors (λ i. i) k }
     {
         let mut rows = numbers();
-        let _ = swap_panel(&mut rows, 96, &self.pivots[..self.held]);
+        let _ = swap_panel(&mut rows, MOST, &self.pivots[..self.held]);
         rows
     }
 

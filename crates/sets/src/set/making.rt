@@ -1,5 +1,5 @@
 // The making and the end of a set, and what anyone may read off it.
-ghost use Rattle.std.specs.Prelude.{◌≡◌, ◌+◌, ◌*◌, ◌<◌, ◌≤◌, [], vec_len, IfOk, MatchOption};
+ghost use Rattle.std.specs.Prelude.{◌≡◌, ◌+◌, ◌*◌, ◌<◌, ◌≤◌, [], vec_len, OnOk, MatchOption};
 ghost use Rattle.std.specs.Result.{result_err};
 ghost use Rattle.sets.specs.States.{made};
 ghost use Rattle.sets.specs.Histories.{History};
@@ -8,22 +8,21 @@ ghost use Rattle.sets.specs.Sets.{state};
 
 use super::{Open, OpenSet, Set, Stage};
 use arithmetic::Arithmetic;
-use columns::Refusal;
+use columns::{MOST, Refusal};
 
-// How many unknowns a set over so much memory has, unless it is refused.
-fn fitting(unknowns: usize, size: usize) -> Result<usize, Refusal>
+// Whether a set of so many unknowns can be made over so much memory.
+fn check_room(unknowns: usize, size: usize) -> Result<(), Refusal>
     ensures refused { result_err result ≡ make_refusal unknowns size }
-    ensures all { IfOk result (λ n. n ≡ unknowns) }
-    ensures few { IfOk result (λ n. n ≤ 96) }
-    ensures room { IfOk result (λ n. n * (n + 2) ≤ size) }
+    ensures few { OnOk result (unknowns ≤ 96) }
+    ensures room { OnOk result (unknowns * (unknowns + 2) ≤ size) }
 {
-    if unknowns == 0 || unknowns > 96 {
+    if unknowns == 0 || unknowns > MOST {
         return Err(Refusal::Unknowns);
     }
     if size < unknowns * (unknowns + 2) {
         return Err(Refusal::Memory);
     }
-    Ok(unknowns)
+    Ok(())
 }
 
 impl<T: Arithmetic> Set<T, Open> {
@@ -40,21 +39,21 @@ impl<T: Arithmetic> Set<T, Open> {
             memory,
             unknowns,
             held: 0,
-            pivots: [0; 96],
+            pivots: [0; MOST],
             refusal,
             stage: Open,
         }
     }
 
-    // A set that holds nothing. A refused one has no unknowns, and answers its refusal to every call but the seal and the end.
+    // A set that holds nothing. A refused one has no unknowns, and answers its refusal to every call that can be refused.
     pub fn make(unknowns: usize, memory: Vec<T>) -> OpenSet<T>
         ensures memory { result.memory ≡ memory }
         ensures refusal { result.refusal ≡ make_refusal unknowns (vec_len memory) }
         ensures state { state T.field.ops T.value result ≡ made T.field.ops (allowed (make_refusal unknowns (vec_len memory)) unknowns) }
         ensures started { History T.field.ops result.unknowns [] (state T.field.ops T.value result) }
     {
-        match fitting(unknowns, memory.len()) {
-            Ok(unknowns) => Set::empty(unknowns, memory, None),
+        match check_room(unknowns, memory.len()) {
+            Ok(()) => Set::empty(unknowns, memory, None),
             Err(refusal) => Set::empty(0, memory, Some(refusal)),
         }
     }

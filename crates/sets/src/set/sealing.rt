@@ -37,13 +37,11 @@ impl<T: Arithmetic> Set<T, Open> {
 }
 
 impl<T: Arithmetic> Set<T, Sealed> {
-    // Refuses while fewer columns are held than there are unknowns; a refused set refuses all.
+    // Refuses while fewer columns are held than there are unknowns.
     fn accept_full(&self) -> Result<(), Refusal>
         ensures { result_err result ≡ determinant_refusal self.now.refusal self.now.unknowns self.now.held }
     {
-        if let Some(refusal) = self.refusal {
-            return Err(refusal);
-        }
+        self.accept_any()?;
         if self.held < self.unknowns {
             return Err(Refusal::Missing);
         }

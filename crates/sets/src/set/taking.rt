@@ -40,11 +40,11 @@ pub(super) fn work_column<T: Arithmetic>(
     slots: &mut [T],
     height: usize,
     rank: usize,
-    pivots: &[usize; 96],
+    pivots: &[usize],
     column: &[T],
 )
     requires fits { rank ≤ height }
-    requires counted { height ≤ 96 }
+    requires counted { rank ≤ length pivots.now }
     requires stored { (rank + 1) * height ≤ length slots.old }
     requires inside { PivotsWithin height rank pivots.now }
     requires high { length column.now ≡ height }
