@@ -9,7 +9,7 @@ use Rattle.sets.specs.States.Reply.{fixed, free}
 use Rattle.sets.specs.Subject.{Held}
 use Rattle.sets.specs.Histories.{Call, Step, History}
 use Rattle.sets.specs.Histories.Call.{enquire, rebuild, solve, determine}
-use Rattle.sets.specs.Laws.{held, OnlySolution, Determined as IsDeterminant}
+use Rattle.sets.specs.Laws.{held, ReplyHolds, HeldAt, OnlySolution, Determined as IsDeterminant}
 use Rattle.sets.specs.declared.reply.Reply.{Reply as Told}
 use Rattle.sets.specs.declared.reply.Reply.TheVariants.{Fixed, Free}
 
@@ -27,12 +27,14 @@ module _ {K T : Type 0} (F : Field K) (value : T → K) where
   pub record Enquired (s : State K) (query answer : List T) (a : Told T) : Type 0 where
     pub formula : enquired F s (row F value query) ≡ seen_reply a answer
     pub step : Step F s (enquire (row F value query) (seen_reply a answer)) s
+    pub holds : InEveryHistory F s (λ m h. ReplyHolds F m h (row F value query) (seen_reply a answer))
 
   -- an accepted rebuild
   pub record Rebuilt (s : State K) (place : ℕ) (answer : List T) (t : T) : Type 0 where
     pub column : row F value answer ≡ rebuilt F s.factors place
     pub target : value t ≡ s.target place
     pub step : Step F s (rebuild place (row F value answer) (value t)) s
+    pub holds : InEveryHistory F s (λ m h. HeldAt F h place (row F value answer) (value t))
 
   -- an accepted solution: the only assignment that meets every held column
   pub record Solved (s : State K) (answer : List T) : Type 0 where

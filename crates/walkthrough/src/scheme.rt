@@ -3,7 +3,7 @@ use crate::faces::FACES;
 use crate::faces::Face::{self, EndFace, Flange, Groove, Seat, Shoulder};
 use arithmetic::{Arithmetic, Residue, is_zero};
 use columns::Greatest;
-use sets::{OpenSet, Reply, Verdict};
+use sets::{OpenSet, Reply, SealedSet, Verdict};
 use std::{fmt, io};
 
 // How far one face lies from another, in hundredths of a millimetre.
@@ -59,7 +59,8 @@ pub fn judge_scheme(rt: &HostRuntime) -> io::Result<()> {
     println!(rt; "What it settles:")?;
     let to_the_end = column_of(Shoulder, EndFace);
     drawing.ask(rt, "from the shoulder to the end face", &to_the_end)?;
-    drawing.ask(rt, "the flange in space", &[0, 0, 1, 0, 0].map(Residue))
+    drawing.ask(rt, "the flange in space", &[0, 0, 1, 0, 0].map(Residue))?;
+    drawing.finish(rt)
 }
 
 // The set that judges, and the dimensions that it holds, in their places.
@@ -97,6 +98,22 @@ impl Drawing {
         }
     }
 
+    // Pins the seat, seals the scheme, shows where every face lies, and gives the memory back.
+    fn finish(mut self, rt: &HostRuntime) -> io::Result<()> {
+        println!(rt; "With the seat pinned the scheme is full, and is sealed:")?;
+        let seat = [1, 0, 0, 0, 0].map(Residue);
+        let mut answer = [Residue(0); 5];
+        let verdict = self.set.offer(&seat, Residue(0), &mut answer, &Greatest);
+        let taken = matches!(verdict, Ok(Verdict::Taken(_)));
+        println!(rt;
+            "  seat at 0: {}",
+            if taken { "taken" } else { "not taken" }
+        )?;
+        let sealed = self.set.seal();
+        show_positions(rt, &sealed)?;
+        println!(rt; "  {} elements of memory given back", sealed.end().len())
+    }
+
     fn ask(&self, rt: &HostRuntime, name: &str, query: &[Residue; 5]) -> io::Result<()> {
         let mut answer = [Residue(0); 5];
         match self.set.enquire(query, &mut answer) {
@@ -110,6 +127,21 @@ impl Drawing {
             }
             Err(refusal) => println!(rt; "  {name}: refused, {}", refusal.number()),
         }
+    }
+}
+
+// Where the full scheme puts each face, and its determinant.
+fn show_positions(rt: &HostRuntime, sealed: &SealedSet<Residue>) -> io::Result<()> {
+    let mut positions = [Residue(0); 5];
+    if let Err(refusal) = sealed.solution(&mut positions) {
+        return println!(rt; "  not solved: refused, {}", refusal.number());
+    }
+    for (face, position) in FACES.iter().zip(&positions) {
+        println!(rt; "  {face} lies at {}", position.code())?;
+    }
+    match sealed.determinant() {
+        Ok(determinant) => println!(rt; "  the determinant is {}", determinant.code()),
+        Err(refusal) => println!(rt; "  no determinant: refused, {}", refusal.number()),
     }
 }
 
