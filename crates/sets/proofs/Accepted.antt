@@ -26,14 +26,21 @@ inside_true h k [] inside = refl
 inside_true h k (o ∷ os) inside =
     and_from _ _ (lt-ltb (k + o) h (omega (arith, inside 0 (omega arith)))) (inside_true h (suc k) os (λ j l. omega (arith, inside (suc j) (omega arith))))
 
+-- a panel of whole columns
+pub swap_whole : (size m : ℕ) (pivots : List ℕ) → size % m ≡ 0 → PivotsInside m pivots → swap_refusal size m pivots ≡ None
+swap_whole size m pivots e inside =
+    ap₂ (λ a b. cond a (cond b None (Some Place)) (Some Length)) (eq-eqb (size % m) 0 e) (inside_true m 0 pivots (λ j l. omega (arith, inside j l)))
+
+pub factor_whole : (factors m r size : ℕ) → factors ≡ r * m → r ≤ m → size % m ≡ 0 → factor_refusal factors m r size ≡ None
+factor_whole factors m r size e le whole =
+    ap (λ b. cond b None (Some Length)) (and_from _ _ (and_from _ _ (le-leb r m le) (eq-eqb factors (r * m) e)) (eq-eqb (size % m) 0 whole))
+
 -- a run of m elements is whole at height m
-one_whole : (size m : ℕ) → size ≡ m → whole size m ≡ true
-one_whole size m e = eq-eqb (size % m) 0 (ap (λ n. n % m) e ∙ mod_self m)
+one_whole : (size m : ℕ) → size ≡ m → size % m ≡ 0
+one_whole size m e = ap (λ n. n % m) e ∙ mod_self m
 
 pub swap_accepted : (m : ℕ) (pivots : List ℕ) → PivotsInside m pivots → swap_refusal m m pivots ≡ None
-swap_accepted m pivots inside =
-    ap₂ (λ a b. cond a (cond b None (Some Place)) (Some Length)) (one_whole m m refl) (inside_true m 0 pivots (λ j l. omega (arith, inside j l)))
+swap_accepted m pivots = swap_whole m m pivots (one_whole m m refl)
 
 pub factor_accepted : (factors m r size : ℕ) → factors ≡ r * m → r ≤ m → size ≡ m → factor_refusal factors m r size ≡ None
-factor_accepted factors m r size e le one =
-    ap (λ b. cond b None (Some Length)) (and_from _ _ (and_from _ _ (le-leb r m le) (eq-eqb factors (r * m) e)) (one_whole size m one))
+factor_accepted factors m r size e le one = factor_whole factors m r size e le (one_whole size m one)

@@ -23,16 +23,19 @@ module _ {K X : Type 0} (F : Field K) (value : X → K) (m r : ℕ) (ps : List �
       ap (λ vs. packed F value m r vs ps) before ∙ sym (stored_packed F value m r (take (m * (m + 2)) xs) ps)
       ∙ ap (λ (s : State K). s.factors) (stored_front F value m r xs ps le)
 
-  -- a column b worked in slot r
-  module _ (b : ℕ → K) (works : cells F value m ys ≡ put r (worked F (packed F value m r us ps) b) (cells F value m us)) where
+  -- a column b put into slot r
+  module _ (b : ℕ → K) (puts : cells F value m ys ≡ put r b (cells F value m us)) where
     others : (j : ℕ) → j < m + 2 → ¬ (j ≡ r) → cells F value m zs j ≡ cells F value m xs j
-    others j l n = from_slots j l ∙ ap (λ (G : ℕ → ℕ → K). G j) works ∙ put_off r _ (cells F value m us) j n ∙ in_slots j l
+    others j l n = from_slots j l ∙ ap (λ (G : ℕ → ℕ → K). G j) puts ∙ put_off r b (cells F value m us) j n ∙ in_slots j l
 
-    pub worked_state : stored F value m r zs ps ≡ stored F value m r xs ps
-    worked_state = stored_same F value m r zs xs ps (λ j l. others j (omega arith) (omega arith)) (others (m + 1) (omega arith) (omega arith))
+    pub put_state : stored F value m r zs ps ≡ stored F value m r xs ps
+    put_state = stored_same F value m r zs xs ps (λ j l. others j (omega arith) (omega arith)) (others (m + 1) (omega arith) (omega arith))
 
-    pub worked_next : cells F value m zs r ≡ worked F (stored F value m r xs ps).factors b
-    worked_next = from_slots r (omega arith) ∙ ap (λ (G : ℕ → ℕ → K). G r) works ∙ put_at r _ (cells F value m us) ∙ ap (λ s. worked F s b) packed_slots
+    pub put_next : cells F value m zs r ≡ b
+    put_next = from_slots r (omega arith) ∙ ap (λ (G : ℕ → ℕ → K). G r) puts ∙ put_at r b (cells F value m us)
+
+  pub worked_next : (b : ℕ → K) → cells F value m ys ≡ put r (worked F (packed F value m r us ps) b) (cells F value m us) → cells F value m zs r ≡ worked F (stored F value m r xs ps).factors b
+  worked_next b works = put_next (worked F (packed F value m r us ps) b) works ∙ ap (λ s. worked F s b) packed_slots
 
   -- column r taken with pick q and target t
   pub taken_state : (q : ℕ) (t : K) → r < m → r < length ps → ((j : ℕ) → j < r → cells F value m ys j ≡ (λ i. cells F value m us j (exchange r (r + q) i)))

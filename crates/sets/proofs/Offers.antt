@@ -6,7 +6,7 @@ use Rattle.arithmetic.specs.Fields.{Field, Lawful}
 use Rattle.arithmetic.specs.Runs.{row}
 use Rattle.columns.specs.Swaps.{choose}
 use Rattle.columns.specs.Picks.{Pick, LawfulPick, AllZero, NonzeroAt}
-use Rattle.columns.specs.Factors.{worked, combination}
+use Rattle.columns.specs.Factors.{combination}
 use Rattle.columns.proofs.Places.{choose_yes, choose_no}
 use Rattle.columns.proofs.Panels.{row_past}
 use Rattle.sets.specs.States.{State, Verdict as Judged, codes, unknowns_in_rows, picked, value_of, repeated, taken_at, decided, offered}
@@ -31,16 +31,15 @@ module _ {K : Type 0} (F : Field K) (pick : Pick) (s : State K) where
       let h : q < length cs = (MatchOption-at_some (AllZero cs) (NonzeroAt cs) q (sym e) (lawful.answers cs us (lc ∙ sym lu, omega arith))).0 in
       omega arith
 
-  module _ (b : ℕ → K) (t : K) where
-    pub offered_taken : (q place : ℕ) (u : State K) → Some q ≡ picked F pick s (worked F s.factors b) → place ≡ s.factors.rank → u ≡ taken_at F s (worked F s.factors b) t q → offered F pick s b t ≡ (taken place, u)
-    unfolding decided offered
-    offered_taken q place u says at after =
-        ap (decided F s (worked F s.factors b) t) (sym says) ∙ ap₂ {C = Judged K × State K} (λ p v. (taken p, v)) (sym at) (sym after)
+  -- the worked column w, taken at place r or repeated
+  module _ (w : ℕ → K) (t : K) where
+    pub decided_taken : (q place : ℕ) (u : State K) → Some q ≡ picked F pick s w → place ≡ s.factors.rank → u ≡ taken_at F s w t q → decided F s w t (picked F pick s w) ≡ (taken place, u)
+    unfolding decided
+    decided_taken q place u says at after = ap (decided F s w t) (sym says) ∙ ap₂ {C = Judged K × State K} (λ p v. (taken p, v)) (sym at) (sym after)
 
-    pub offered_repeated : (v : Judged K) (u : State K) → None ≡ picked F pick s (worked F s.factors b) → v ≡ repeated F s (combination F s.factors (worked F s.factors b)) t → u ≡ s → offered F pick s b t ≡ (v, u)
-    unfolding decided offered
-    offered_repeated v u says verdict after =
-        ap (decided F s (worked F s.factors b) t) (sym says) ∙ ap₂ {C = Judged K × State K} (λ p w. (p, w)) (sym verdict) (sym after)
+    pub decided_repeated : (v : Judged K) → None ≡ picked F pick s w → v ≡ repeated F s (combination F s.factors w) t → decided F s w t (picked F pick s w) ≡ (v, s)
+    unfolding decided
+    decided_repeated v says verdict = ap (decided F s w t) (sym says) ∙ ap {B = Judged K × State K} (λ p. (p, s)) (sym verdict)
 
 -- the verdict on a combination x, from its value v
 module _ {K : Type 0} (F : Field K) (s : State K) (x : ℕ → K) (v t : K) (worth : v ≡ value_of F s x) where
@@ -52,7 +51,7 @@ module _ {K : Type 0} (F : Field K) (s : State K) (x : ℕ → K) (v t : K) (wor
   unfolding repeated
   repeated_clash W n = ap (λ u. clash u x) worth ∙ sym (choose_no (ℕ_discrete _ _) _ _ (λ e. n (worth ∙ W.code_same _ _ e)))
 
-never_taken : {K : Type 0} (j : ℕ) (v : K) (x : ℕ → K) {P : Type 0} (d : Dec P) → ◌≡◌ {A = Judged K} (taken j) (choose d (redundant x) (clash v x)) → ⊥
+pub never_taken : {K : Type 0} (j : ℕ) (v : K) (x : ℕ → K) {P : Type 0} (d : Dec P) → ◌≡◌ {A = Judged K} (taken j) (choose d (redundant x) (clash v x)) → ⊥
 never_taken j v x (yes h) e = let z : ◌≡◌ {A = ℕ} 0 1 = cc in omega arith
 never_taken j v x (no h) e = let z : ◌≡◌ {A = ℕ} 0 1 = cc in omega arith
 

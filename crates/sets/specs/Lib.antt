@@ -9,3 +9,4 @@ pub mod Workings
 pub mod Refused
 pub mod Sets
 pub mod Asked
+pub mod Batches

@@ -1,7 +1,7 @@
 -- When a call of a set is refused.
-use Rattle.std.specs.Prelude.{ℕ, ◌+◌, ◌*◌, ◌&&◌, if◌then◌else◌, Some, None, Option, ◌==◌, nat_lt}
+use Rattle.std.specs.Prelude.{ℕ, ◌+◌, ◌*◌, ◌&&◌, if◌then◌else◌, Some, None, Option, ◌==◌, nat_le, nat_lt}
 use Rattle.columns.specs.declared.refusal.Refusal.{Refusal}
-use Rattle.columns.specs.declared.refusal.Refusal.TheVariants.{Unknowns, Memory, Length, Missing, Place}
+use Rattle.columns.specs.declared.refusal.Refusal.TheVariants.{Unknowns, Memory, Length, List, Work, Missing, Place}
 
 -- the making of a set of m unknowns over n elements of memory
 abbrev pub make_refusal : ℕ → ℕ → Option Refusal
@@ -16,6 +16,12 @@ allowed (Some e) m = 0
 abbrev pub offer_refusal : Option Refusal → ℕ → ℕ → ℕ → Option Refusal
 offer_refusal (Some e) m column answer = Some e
 offer_refusal None m column answer = if column == m && answer == m then None else Some Length
+
+-- a batch of k targets, by the lengths of its columns, its verdict list and its work run, and by its width
+abbrev pub batch_refusal : Option Refusal → ℕ → ℕ → ℕ → ℕ → ℕ → ℕ → Option Refusal
+batch_refusal (Some e) m k columns verdicts width work = Some e
+batch_refusal None m k columns verdicts width work =
+    if columns == k * m && nat_le k verdicts then if nat_le 1 width && nat_le width 32 && nat_le (width * m) work then None else Some Work else Some List
 
 -- a rebuild, by the length of the answer run, the place and how many columns are held
 abbrev pub rebuild_refusal : Option Refusal → ℕ → ℕ → ℕ → ℕ → Option Refusal

@@ -3,13 +3,14 @@ use Rattle.std.specs.Prelude.{◌≡◌, ℕ, ◌+◌, ◌*◌, List, drop, vec_
 use Rattle.arithmetic.specs.Fields.{Field}
 use Rattle.arithmetic.specs.Runs.{row}
 use Rattle.columns.specs.Picks.{Pick}
-use Rattle.columns.specs.Factors.{worked}
+use Rattle.columns.specs.Factors.{Packed, worked}
 use Rattle.columns.specs.Panels.{cells}
 use Rattle.sets.specs.States.{State, Verdict as Judged, offered}
 use Rattle.sets.specs.States.Verdict.{taken, redundant, clash}
 use Rattle.sets.specs.Histories.{Step}
 use Rattle.sets.specs.Histories.Call.{offer}
 use Rattle.sets.specs.Memory.{stored}
+use Rattle.sets.specs.Workings.{stepped}
 use Rattle.sets.specs.declared.set.Set.{Set}
 use Rattle.sets.specs.declared.verdict.Verdict.{Verdict}
 use Rattle.sets.specs.declared.verdict.Verdict.TheVariants.{Taken, Redundant, Clash}
@@ -38,6 +39,18 @@ abbrev pub Untouched : {T : Type 0} → Verdict T → List T → List T → Type
 Untouched (Taken j) before after = after ≡ before
 Untouched Redundant before after = Unit {0}
 Untouched (Clash x) before after = Unit {0}
+
+-- a column taken is the last of the n that are held
+abbrev pub PlaceOfLast : {T : Type 0} → ℕ → Verdict T → Type 0
+PlaceOfLast n (Taken j) = j + 1 ≡ n
+PlaceOfLast n Redundant = Unit {0}
+PlaceOfLast n (Clash x) = Unit {0}
+
+-- a column that was worked before a verdict, brought up to date with the factors s after it
+abbrev pub caught_up : {K T : Type 0} → Field K → Packed K → Verdict T → (ℕ → K) → ℕ → K
+caught_up F s (Taken j) x = stepped F s j x
+caught_up F s Redundant x = x
+caught_up F s (Clash v) x = x
 
 -- a verdict of the code, with the answer run beside it
 abbrev pub seen : {K T : Type 0} → Field K → (T → K) → Verdict T → List T → Judged K

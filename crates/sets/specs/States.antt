@@ -22,6 +22,12 @@ pub data Verdict (K : Type 0) : Type 0 where
   redundant : (ℕ → K) → Verdict K
   clash : K → (ℕ → K) → Verdict K
 
+-- its number
+abbrev pub verdict_number : {K : Type 0} → Verdict K → ℕ
+verdict_number (taken p) = 0
+verdict_number (redundant x) = 1
+verdict_number (clash v x) = 2
+
 -- to an enquiry: fixed at a value, by the combination shown, or free, by the motion shown
 pub data Reply (K : Type 0) : Type 0 where
   fixed : K → (ℕ → K) → Reply K

@@ -5,6 +5,7 @@ ghost use Rattle.sets.specs.Pivots.{PivotsWithin};
 
 use arithmetic::Arithmetic;
 
+mod advancing;
 mod combining;
 mod determining;
 mod moving;

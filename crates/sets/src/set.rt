@@ -1,10 +1,11 @@
 // What a set is.
-ghost use Rattle.std.specs.Prelude.{◌+◌, ◌*◌, ◌≤◌, vec_len};
+ghost use Rattle.std.specs.Prelude.{◌≡◌, ◌+◌, ◌*◌, ◌<◌, ◌≤◌, None, vec_len};
 ghost use Rattle.sets.specs.Pivots.{PivotsWithin};
 
 use columns::{MOST, Refusal};
 
 mod asking;
+mod batching;
 mod choosing;
 mod making;
 mod offer;
@@ -37,6 +38,7 @@ pub struct Set<T, S: Stage> {
     refusal: Option<Refusal>,
     stage: S,
     ghost size: { unknowns ≤ 96 },
+    ghost some: { refusal ≡ None → 0 < unknowns },
     ghost few: { held ≤ unknowns },
     ghost room: { unknowns * (unknowns + 2) ≤ vec_len memory },
     ghost inside: { PivotsWithin unknowns held pivots },

@@ -1,5 +1,5 @@
 // Sealed sets: determinants, solutions, and what is refused.
-use crate::helpers::{Scheme, codes, new_set};
+use crate::helpers::{Recurrence, Scheme, codes, new_set};
 use arithmetic::{Arithmetic, Parity, Residue};
 use columns::{Chooser, Greatest, Refusal, Topmost};
 use sets::OpenSet;
@@ -57,19 +57,6 @@ fn small_schemes_by_parity(rt: HostRuntime) -> Result<(), Fail> {
     let three = solved::<Parity, _, _>(&rt, Topmost, dimensions)?;
     assert_eq!(rt; three, (1, [1, 1, 0]));
     Ok(())
-}
-
-// A recurrence modulo 2^31.
-#[derive(Drop)]
-struct Recurrence(u32);
-
-impl Recurrence {
-    // The upper sixteen bits of its next number, brought in.
-    fn next<T: Arithmetic>(&mut self) -> T {
-        let Recurrence(x) = self;
-        *x = x.wrapping_mul(1103515245).wrapping_add(12345) % 0x8000_0000;
-        T::bring((*x / 0x8000 % 0x10000) as i32)
-    }
 }
 
 // The first code, the last, and a checksum: each code in turn added to 31 times what came before, modulo 2^32.

@@ -1,8 +1,9 @@
 // A column swapped and worked by the columns held.
-ghost use Rattle.std.specs.Prelude.{◌≡◌, ◌+◌, ◌-◌, ◌<◌, ◌≤◌, length, IfSome};
+ghost use Rattle.std.specs.Prelude.{◌≡◌, ℕ, ◌+◌, ◌-◌, ◌/◌, ◌%◌, ◌<◌, ◌≤◌, length, IfSome};
 ghost use Rattle.arithmetic.specs.Runs.{row};
 ghost use Rattle.columns.specs.Swaps.{joined};
 ghost use Rattle.columns.specs.Factors.{permuted, restored, worked, lead};
+ghost use Rattle.columns.specs.Panels.{cells};
 ghost use Rattle.sets.specs.Lent.{lent};
 
 use super::Factors;
@@ -45,6 +46,17 @@ impl<T: Arithmetic> Factors<'_, T> {
         let lower = &self.columns[..self.rank * self.height];
         let _ = solve_panel(lower, self.height, self.rank, column);
         let _ = subtract_product(lower, self.height, self.rank, column);
+    }
+
+    // Swaps, solves and reduces each column of a panel.
+    pub(crate) fn work_panel(&self, panel: &mut [T])
+        requires { length panel.old % self.now.height ≡ 0 }
+        ensures { (j : ℕ) → j < length panel.old / self.now.height → cells T.field.ops T.value self.now.height panel.new j ≡ worked T.field.ops (lent T.field.ops T.value self.now) (cells T.field.ops T.value self.now.height panel.old j) }
+    {
+        let _ = swap_panel(panel, self.height, &self.pivots[..self.rank]);
+        let lower = &self.columns[..self.rank * self.height];
+        let _ = solve_panel(lower, self.height, self.rank, panel);
+        let _ = subtract_product(lower, self.height, self.rank, panel);
     }
 
     // The first place of a worked column's rest that is not zero.

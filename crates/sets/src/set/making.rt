@@ -1,5 +1,5 @@
 // The making and the end of a set, and what anyone may read off it.
-ghost use Rattle.std.specs.Prelude.{◌≡◌, ◌+◌, ◌*◌, ◌<◌, ◌≤◌, [], vec_len, OnOk, MatchOption};
+ghost use Rattle.std.specs.Prelude.{◌≡◌, ◌+◌, ◌*◌, ◌<◌, ◌≤◌, [], None, vec_len, OnOk, MatchOption};
 ghost use Rattle.std.specs.Result.{result_err};
 ghost use Rattle.sets.specs.States.{made};
 ghost use Rattle.sets.specs.Histories.{History};
@@ -13,6 +13,7 @@ use columns::{MOST, Refusal};
 // Whether a set of so many unknowns can be made over so much memory.
 fn check_room(unknowns: usize, size: usize) -> Result<(), Refusal>
     ensures refused { result_err result ≡ make_refusal unknowns size }
+    ensures some { OnOk result (0 < unknowns) }
     ensures few { OnOk result (unknowns ≤ 96) }
     ensures room { OnOk result (unknowns * (unknowns + 2) ≤ size) }
 {
@@ -28,6 +29,7 @@ fn check_room(unknowns: usize, size: usize) -> Result<(), Refusal>
 impl<T: Arithmetic> Set<T, Open> {
     // A set of so many unknowns that holds nothing.
     fn empty(unknowns: usize, memory: Vec<T>, refusal: Option<Refusal>) -> OpenSet<T>
+        requires some { refusal ≡ None → 0 < unknowns }
         requires few { unknowns ≤ 96 }
         requires room { unknowns * (unknowns + 2) ≤ vec_len memory }
         ensures memory { result.memory ≡ memory }

@@ -1,18 +1,32 @@
 // A column offered to a set: taken, redundant or a clash.
 ghost use Rattle.std.specs.Prelude.{◌≡◌, ◌+◌, ◌<◌, length, MatchResult};
 ghost use Rattle.std.specs.Result.{result_err};
+ghost use Rattle.arithmetic.specs.Runs.{row};
 ghost use Rattle.columns.specs.Factors.{combination};
-ghost use Rattle.sets.specs.States.{repeated, taken_at};
+ghost use Rattle.sets.specs.States.{picked, repeated, taken_at, decided};
 ghost use Rattle.sets.specs.Refused.{offer_refusal};
-ghost use Rattle.sets.specs.Sets.{Kept, Offered, state, next_column, worked_column, surplus, seen};
+ghost use Rattle.sets.specs.Sets.{Kept, Offered, Untouched, state, next_column, worked_column, surplus, seen};
 
-use super::taking::{take_column, work_column};
+use super::taking::{put_column, take_column, work_column};
 use super::{Open, Set};
 use crate::verdict::Verdict;
 use arithmetic::{Arithmetic, same};
 use columns::{Chooser, Refusal};
 
 impl<T: Arithmetic> Set<T, Open> {
+    // Puts a column into the slot after the held ones.
+    pub(super) fn put(&mut self, column: &[T])
+        requires { length column.now ≡ self.old.unknowns }
+        ensures kept { Kept self.old self.new }
+        ensures state { state T.field.ops T.value self.new ≡ state T.field.ops T.value self.old }
+        ensures next { next_column T.field.ops T.value self.new ≡ row T.field.ops T.value column.now }
+    {
+        let height = self.unknowns;
+        let all = self.memory.as_mut_slice();
+        let slots = &mut all[0..height * (height + 2)];
+        put_column(slots, height, self.held, column);
+    }
+
     // Works a column in the slot after the held ones.
     fn work(&mut self, column: &[T])
         requires { length column.now ≡ self.old.unknowns }
@@ -31,6 +45,7 @@ impl<T: Arithmetic> Set<T, Open> {
         requires { self.old.held + q < self.old.unknowns }
         ensures place { result ≡ self.old.held }
         ensures state { state T.field.ops T.value self.new ≡ taken_at T.field.ops (state T.field.ops T.value self.old) (next_column T.field.ops T.value self.old) (T.value target) q }
+        ensures unknowns { self.new.unknowns ≡ self.old.unknowns }
         ensures surplus { surplus self.new ≡ surplus self.old }
         ensures refusal { self.new.refusal ≡ self.old.refusal }
     {
@@ -59,6 +74,26 @@ impl<T: Arithmetic> Set<T, Open> {
         }
     }
 
+    // The verdict on the worked column after the held ones, which is held from now on if the chooser picks from its rest.
+    pub(super) fn decide<C: Chooser>(
+        &mut self,
+        target: T,
+        answer: &mut [T],
+        chooser: &C,
+    ) -> Verdict<T>
+        requires { length answer.old ≡ self.old.unknowns }
+        ensures formula { decided T.field.ops (state T.field.ops T.value self.old) (next_column T.field.ops T.value self.old) (T.value target) (picked T.field.ops (C.pick chooser.now) (state T.field.ops T.value self.old) (next_column T.field.ops T.value self.old)) ≡ (seen T.field.ops T.value result answer.new, state T.field.ops T.value self.new) }
+        ensures untouched { Untouched result answer.old answer.new }
+        ensures unknowns { self.new.unknowns ≡ self.old.unknowns }
+        ensures surplus { surplus self.new ≡ surplus self.old }
+        ensures refusal { self.new.refusal ≡ self.old.refusal }
+    {
+        match self.choose(chooser) {
+            Some(q) => Verdict::Taken(self.take(q, target)),
+            None => self.account(target, answer),
+        }
+    }
+
     // A column that is a combination of the held ones gets that combination in the answer run, then zeros. Any other is held from now on.
     pub fn offer<C: Chooser>(
         &mut self,
@@ -72,9 +107,6 @@ impl<T: Arithmetic> Set<T, Open> {
     {
         self.accept(column.len(), answer.len())?;
         self.work(column);
-        match self.choose(chooser) {
-            Some(q) => Ok(Verdict::Taken(self.take(q, target))),
-            None => Ok(self.account(target, answer)),
-        }
+        Ok(self.decide(target, answer, chooser))
     }
 }

@@ -35,6 +35,16 @@ fn work_next<T: Arithmetic>(
     factors.work(next);
 }
 
+// A column is put into slot `rank`.
+pub(super) fn put_column<T: Arithmetic>(slots: &mut [T], height: usize, rank: usize, column: &[T])
+    requires stored { (rank + 1) * height ≤ length slots.old }
+    requires high { length column.now ≡ height }
+    ensures { cells T.field.ops T.value height slots.new ≡ put rank (row T.field.ops T.value column.now) (cells T.field.ops T.value height slots.old) }
+{
+    let start = rank * height;
+    slots[start..start + height].copy_from_slice(column);
+}
+
 // A column is put into slot `rank`, worked by those before it.
 pub(super) fn work_column<T: Arithmetic>(
     slots: &mut [T],

@@ -1,7 +1,7 @@
 use Rattle.std.proofs.Common.{◌+◌, ◌*◌, ◌≤◌, length, vec_items, arith}
 use Rattle.arithmetic.specs.Runs.{row}
 use Rattle.sets.proofs.Borrowed.{front_lent, front_back}
-use Rattle.sets.proofs.Judged.{worked_state, worked_next}
+use Rattle.sets.proofs.Judged.{put_state, worked_next}
 use Rattle.sets.proofs.set.offer.Set+T+Open.work.Goals as goal
 
 pub returns-clause-state : goal.returns-clause-state
@@ -14,7 +14,7 @@ returns-clause-state g c =
     let room : n ≤ length all.result.now = omega (arith, s.room, all.ensures.len) in
     let lent = front_lent s.memory all.result.now ys n all.ensures.value all.ensures.len c.work_column.auto.slots room in
     let back = front_back s.memory all.result.now ys n all.ensures.value all.ensures.len c.work_column.auto.slots room in
-    worked_state F g.T.Arithmetic.value s.unknowns s.held s.pivots s.few (vec_items s.memory) _ ys _ lent back (row F g.T.Arithmetic.value c.args.column.now) c.work_column.ensures
+    put_state F g.T.Arithmetic.value s.unknowns s.held s.pivots s.few (vec_items s.memory) _ ys _ lent back _ c.work_column.ensures
 
 pub returns-clause-worked : goal.returns-clause-worked
 returns-clause-worked g c =
