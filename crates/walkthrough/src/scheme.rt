@@ -52,10 +52,12 @@ pub fn judge_scheme(rt: &HostRuntime) -> io::Result<()> {
     let mut drawing = Drawing {
         set: OpenSet::make(5, vec![in rt.alloc(); Residue(0); 35]?),
         held: Vec::new(rt.alloc()),
+        verdicts: Vec::new(rt.alloc()),
     };
     for (from, to, length) in SCHEME {
         drawing.judge(rt, Dimension { from, to, length })?;
     }
+    drawing.judge_at_once(rt)?;
     println!(rt; "What it settles:")?;
     let to_the_end = column_of(Shoulder, EndFace);
     drawing.ask(rt, "from the shoulder to the end face", &to_the_end)?;
@@ -63,11 +65,12 @@ pub fn judge_scheme(rt: &HostRuntime) -> io::Result<()> {
     drawing.finish(rt)
 }
 
-// The set that judges, and the dimensions that it holds, in their places.
+// The set that judges, the dimensions that it holds, in their places, and the numbers of all verdicts.
 #[derive(Drop)]
 struct Drawing {
     set: OpenSet<Residue>,
     held: Vec<Dimension>,
+    verdicts: Vec<u8>,
 }
 
 impl Drawing {
@@ -78,6 +81,9 @@ impl Drawing {
         let verdict = self
             .set
             .offer(&column_of(from, to), target, &mut answer, &Greatest);
+        if let Ok(verdict) = verdict {
+            self.verdicts.push(verdict.number())?;
+        }
         match verdict {
             Ok(Verdict::Taken(_)) => {
                 self.held.push(dimension)?;
@@ -96,6 +102,29 @@ impl Drawing {
             }
             Err(refusal) => println!(rt; "  {dimension}: refused, {}", refusal.number()),
         }
+    }
+
+    // Judges the scheme once more, in one batch by panels of three, and compares.
+    fn judge_at_once(&self, rt: &HostRuntime) -> io::Result<()> {
+        let mut set = OpenSet::make(5, vec![in rt.alloc(); Residue(0); 35]?);
+        let columns = SCHEME.map(|(from, to, _)| column_of(from, to));
+        let targets = SCHEME.map(|(_, _, length)| Residue::bring(length));
+        let mut verdicts = [3; 7];
+        let mut work = [Residue(0); 15];
+        let judged = set.batch(
+            &targets,
+            columns.as_flattened(),
+            &mut verdicts,
+            3,
+            &mut work,
+            &Greatest,
+        );
+        let pivots_agree = (0..5).all(|k| set.pivot(k) == self.set.pivot(k));
+        let agrees = judged.is_ok()
+            && self.verdicts.as_slice() == verdicts.as_slice()
+            && pivots_agree;
+        let word = if agrees { "agree" } else { "differ" };
+        println!(rt; "Judged once more, in one batch, verdicts and pivots {word}.")
     }
 
     // Pins the seat, seals the scheme, shows where every face lies, and gives the memory back.
