@@ -10,7 +10,7 @@ use Rattle.arithmetic.specs.Fields.{Field}
 use Rattle.arithmetic.specs.Runs.{row}
 use Rattle.arithmetic.proofs.Rows.{row_inside}
 use Rattle.columns.specs.Swaps.{put, exchange, swapped, unswapped}
-use Rattle.columns.specs.Panels.{column_of, places, offsets, cells, EachColumn}
+use Rattle.columns.specs.Panels.{column_of, places, offsets, cells}
 use Rattle.columns.proofs.Places.{put_is, put_comm}
 use Rattle.columns.proofs.Swaps.{put_both}
 

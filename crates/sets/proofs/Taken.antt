@@ -4,7 +4,7 @@ use mathlib.Core.Path.{fun_ext}
 use native.Mathlib.Decide.{dec_lt}
 use Rattle.arithmetic.specs.Fields.{Field}
 use Rattle.columns.specs.Swaps.{put, joined, exchange}
-use Rattle.columns.proofs.Places.{choose_yes, choose_no, put_at, put_off, joined_low, joined_high, joined_next}
+use Rattle.columns.proofs.Places.{choose_yes, choose_no, put_at, put_off, joined_high, joined_next}
 use Rattle.sets.specs.Workings.{divided_below}
 use Rattle.sets.proofs.Parts.{by_parts}
 
@@ -39,13 +39,10 @@ module _ {K : Type 0} (F : Field K) (r : ℕ) where
       ap y (sym e) ∙ divided (i - (r + 1)) ∙ ap (λ j. x j ⊙ inverse (x r)) e ∙ sym (divided_at x i (omega arith)))
 
 -- M's rows r and r + q are exchanged in its columns up to column r, which is divided, and column p gets the target t in row r
-module _ {K : Type 0} (F : Field K) (r q p : ℕ) (t : K) (M A B C : ℕ → ℕ → K) (exchanges : A ≡ joined (r + 1) (λ j i. M j (exchange r (r + q) i)) M) (divides : B ≡ put r (divided_below F r (A r)) A)
-    (past : r < p) (stores : C ≡ put p (put r t (B p)) B) where
+module _ {K : Type 0} (F : Field K) (r q p : ℕ) (t : K) (M A B C : ℕ → ℕ → K) (exchanged : (j : ℕ) → j < r + 1 → A j ≡ (λ i. M j (exchange r (r + q) i)))
+    (divides : B ≡ put r (divided_below F r (A r)) A) (past : r < p) (stores : C ≡ put p (put r t (B p)) B) where
   column : (G H : ℕ → ℕ → K) (j : ℕ) → G ≡ H → G j ≡ H j
   column G H j e = ap (λ (E : ℕ → ℕ → K). E j) e
-
-  exchanged : (j : ℕ) → j < r + 1 → A j ≡ (λ i. M j (exchange r (r + q) i))
-  exchanged j l = column _ _ j exchanges ∙ joined_low (r + 1) (λ j i. M j (exchange r (r + q) i)) M j l
 
   pub taken_held : (j : ℕ) → j < r → C j ≡ (λ i. M j (exchange r (r + q) i))
   taken_held j l = column _ _ j stores ∙ put_off p _ B j (omega arith) ∙ column _ _ j divides ∙ put_off r _ A j (omega arith) ∙ exchanged j (omega arith)
@@ -54,7 +51,8 @@ module _ {K : Type 0} (F : Field K) (r q p : ℕ) (t : K) (M A B C : ℕ → ℕ
   taken_next =
       column _ _ r stores ∙ put_off p _ B r (omega arith) ∙ column _ _ r divides ∙ put_at r _ A ∙ ap (divided_below F r) (exchanged r (omega arith))
 
-  pub taken_target : C p ≡ put r t (M p)
-  taken_target =
-      column _ _ p stores ∙ put_at p _ B
-      ∙ ap (put r t) (column _ _ p divides ∙ put_off r _ A p (omega arith) ∙ column _ _ p exchanges ∙ joined_high (r + 1) (λ j i. M j (exchange r (r + q) i)) M p (omega arith))
+  pub taken_target : A p ≡ M p → C p ≡ put r t (M p)
+  taken_target same = column _ _ p stores ∙ put_at p _ B ∙ ap (put r t) (column _ _ p divides ∙ put_off r _ A p (omega arith) ∙ same)
+
+  pub taken_others : (j : ℕ) → A j ≡ M j → r < j → ¬ (j ≡ p) → C j ≡ M j
+  taken_others j same l other = column _ _ j stores ∙ put_off p _ B j other ∙ column _ _ j divides ∙ put_off r _ A j (omega arith) ∙ same

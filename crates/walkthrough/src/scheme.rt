@@ -51,7 +51,7 @@ pub fn judge_scheme(rt: &HostRuntime) -> io::Result<()> {
     println!(rt; "The scheme, dimension by dimension; 65478 stands for -1:")?;
     let mut drawing = Drawing {
         set: OpenSet::make(5, vec![in rt.alloc(); Residue(0); 35]?),
-        held: Vec::new(rt.alloc()),
+        held: [None; 5],
         verdicts: Vec::new(rt.alloc()),
     };
     for (from, to, length) in SCHEME {
@@ -69,7 +69,7 @@ pub fn judge_scheme(rt: &HostRuntime) -> io::Result<()> {
 #[derive(Drop)]
 struct Drawing {
     set: OpenSet<Residue>,
-    held: Vec<Dimension>,
+    held: [Option<Dimension>; 5],
     verdicts: Vec<u8>,
 }
 
@@ -85,8 +85,10 @@ impl Drawing {
             self.verdicts.push(verdict.number())?;
         }
         match verdict {
-            Ok(Verdict::Taken(_)) => {
-                self.held.push(dimension)?;
+            Ok(Verdict::Taken(place)) => {
+                if let Some(held) = self.held.get_mut(place) {
+                    *held = Some(dimension);
+                }
                 println!(rt; "  {dimension} {length}: taken")
             }
             Ok(Verdict::Redundant) => {
@@ -152,7 +154,7 @@ impl Drawing {
             }
             Ok(Reply::Free) => {
                 println!(rt; "  {name}: free. Faces that move with it, and by how much:")?;
-                show_parts(rt, &FACES, &answer)
+                show_parts(rt, &FACES.map(Some), &answer)
             }
             Err(refusal) => println!(rt; "  {name}: refused, {}", refusal.number()),
         }
@@ -177,12 +179,13 @@ fn show_positions(rt: &HostRuntime, sealed: &SealedSet<Residue>) -> io::Result<(
 // The parts of a combination, with their factors.
 fn show_parts<P: fmt::Display>(
     rt: &HostRuntime,
-    parts: &[P],
+    parts: &[Option<P>],
     combination: &[Residue; 5],
 ) -> io::Result<()> {
     for (factor, part) in combination.iter().zip(parts) {
-        if !is_zero(*factor) {
-            println!(rt; "    {} times {part}", factor.code())?;
+        match part {
+            Some(part) if !is_zero(*factor) => println!(rt; "    {} times {part}", factor.code())?,
+            _ => (),
         }
     }
     Ok(())

@@ -108,6 +108,7 @@ pub(super) fn take_column<T: Arithmetic>(
     ensures held { (j : ℕ) → j < rank → cells T.field.ops T.value height slots.new j ≡ (λ i. cells T.field.ops T.value height slots.old j (exchange rank (rank + q) i)) }
     ensures next { cells T.field.ops T.value height slots.new rank ≡ divided_below T.field.ops rank (λ i. cells T.field.ops T.value height slots.old rank (exchange rank (rank + q) i)) }
     ensures targets { cells T.field.ops T.value height slots.new (height + 1) ≡ put rank (T.value target) (cells T.field.ops T.value height slots.old (height + 1)) }
+    ensures others { (j : ℕ) → rank < j → (j ≡ height + 1 → ⊥) → cells T.field.ops T.value height slots.new j ≡ cells T.field.ops T.value height slots.old j }
 {
     exchange_rows(slots, height, rank + 1, rank, rank + q);
     let start = rank * height;

@@ -1,4 +1,4 @@
-use Rattle.std.proofs.Common.{◌+◌, ◌*◌, ◌<◌, length, sym, ◌∙◌, ap₂, add-one, arith}
+use Rattle.std.proofs.Common.{◌+◌, ◌*◌, ◌<◌, length, sym, ap, ◌∙◌, ap₂, add-one, arith, rules, tests}
 use Rattle.std.proofs.lemmas.List.{length-take-le, get_or-take}
 use Rattle.arithmetic.proofs.Rows.{row_inside}
 use Rattle.columns.proofs.Panels.{within, cells_at}
@@ -14,4 +14,4 @@ loop-k-preserved g c =
     let p : k * length column + c.args.i < length c.args.factors.now = within k c.args.i c.args.n _ _ h (omega arith) (omega arith) in
     let x = cells_at F value c.args.factors.now (length column) k c.args.i _ (omega arith) p c.index-factors-at.is in
     let y = row_inside F value column k c.x-item.result (omega arith) (c.x-item.is ∙ get_or-take c.args.n column k c.x-item.result h) in
-    rw add-one (c.sum-sum.ensures ∙ ap₂ F.sum c.loop-k.invariant (c.product.ensures ∙ ap₂ F.product (sym x) (sym y)))
+    rw add-one (c.sum-sum.ensures ∙ ap₂ F.sum c.loop-k.invariant (c.product.ensures ∙ ap₂ F.product (sym x) (ap value (search (rules, tests)) ∙ sym y)))

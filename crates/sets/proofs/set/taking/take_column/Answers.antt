@@ -1,12 +1,13 @@
-use Rattle.std.proofs.Common.{◌≡◌, ◌+◌, ◌-◌, ◌*◌, ◌<◌, length, take, drop, refl, ap, ◌∙◌, arith}
+use Rattle.std.proofs.Common.{◌≡◌, ℕ, ◌+◌, ◌-◌, ◌*◌, ◌<◌, length, take, drop, refl, ap, ◌∙◌, arith}
 use borrow.Rule.Slice.PartMut.{put_mid, same_len_mid}
 use Rattle.arithmetic.specs.Runs.{row}
-use Rattle.columns.specs.Swaps.{put}
+use Rattle.columns.specs.Swaps.{put, exchange}
 use Rattle.columns.specs.Panels.{cells}
 use Rattle.sets.specs.Workings.{divided_below}
+use Rattle.columns.proofs.Places.{joined_low, joined_high}
 use Rattle.sets.proofs.Slots.{slot_place, slot_end, cells_lent, cells_set}
 use Rattle.sets.proofs.Dots.{part_length}
-use Rattle.sets.proofs.Taken.{taken_held, taken_next, taken_target}
+use Rattle.sets.proofs.Taken.{taken_held, taken_next, taken_target, taken_others}
 use Rattle.sets.proofs.set.taking.take_column.Goals as goal
 
 pub returns : goal.returns
@@ -33,8 +34,11 @@ returns g c =
     let divides : B ≡ put r (divided_below F r (A r)) A = cells_lent F value exchanged column h r (start + h) refl ends (c.divide.auto.column ∙ long ∙ size) ∙ ap (λ x. put r x A) divided in
     let place = slot_place h (h + 1) r (length spliced) (omega arith) below (omega (arith, c.exchange_rows.auto.memory, c.requires.stored)) in
     let stores = cells_set F value spliced h (h + 1) r c.args.target below place in
+    let column : (j : ℕ) → A j ≡ _ = λ j. ap (λ (G : ℕ → ℕ → g.T.Arithmetic.field.Carrier). G j) c.exchange_rows.ensures in
+    let low : (j : ℕ) → j < r + 1 → A j ≡ (λ i. M j (exchange r (r + q) i)) = λ j l. column j ∙ joined_low _ _ M j (omega (arith, l)) in
     record {
-      held = taken_held F r q (h + 1) t M A B _ c.exchange_rows.ensures divides (omega arith) stores;
-      next = taken_next F r q (h + 1) t M A B _ c.exchange_rows.ensures divides (omega arith) stores;
-      targets = taken_target F r q (h + 1) t M A B _ c.exchange_rows.ensures divides (omega arith) stores;
+      held = taken_held F r q (h + 1) t M A B _ low divides (omega arith) stores;
+      next = taken_next F r q (h + 1) t M A B _ low divides (omega arith) stores;
+      targets = taken_target F r q (h + 1) t M A B _ low divides (omega arith) stores (column (h + 1) ∙ joined_high _ _ M (h + 1) (omega (arith, c.requires.place)));
+      others = λ j l. taken_others F r q (h + 1) t M A B _ low divides (omega arith) stores j (column j ∙ joined_high _ _ M j (omega (arith, l))) l;
     }
