@@ -1,5 +1,5 @@
 -- What a look at a place of a run finds.
-use Rattle.std.proofs.Common.{◌≡◌, ℕ, zero, suc, ◌<◌, ◌≤◌, List, [], ◌∷◌, length, get_or, refl, arith, Some, None, Option, MatchOption, IfSome}
+use Rattle.std.proofs.Common.{◌≡◌, ℕ, zero, suc, ◌<◌, ◌≤◌, List, [], ◌∷◌, length, get_or, sym, refl, subst, arith, Some, None, Option, MatchOption, IfSome}
 use denote.Bor.{Bor}
 use Rattle.std.specs.Option.{option_copied}
 
@@ -8,6 +8,10 @@ pub copied_found : {X : Type 0} (xs : List X) (k : ℕ) {P : Type 0} {R : X → 
     → IfSome o (λ x. x.now ≡ get_or xs k x.now) → (length xs ≤ k → P) → ((x : X) → k < length xs → x ≡ get_or xs k x → R x) → MatchOption (option_copied o) P R
 copied_found xs k Q (Some x) found at none some = some x.now found.0 at
 copied_found xs k Q None found at none some = none found
+
+-- so too of what is the copy of such a look
+pub found_as : {X : Type 0} (P : Type 0) (R : X → Type 0) (v : Option X) (o : Option (Bor X)) → v ≡ option_copied o → MatchOption (option_copied o) P R → MatchOption v P R
+found_as P R v o e m = subst (λ u. MatchOption u P R) (sym e) m
 
 -- within a run, what stands for a missing element does not count
 pub same_default : {X : Type 0} (xs : List X) (k : ℕ) (d e : X) → k < length xs → get_or xs k d ≡ get_or xs k e
